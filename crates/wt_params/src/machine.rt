@@ -1,5 +1,5 @@
 ghost use Rattle.std.specs.Prelude.{◌≡◌, ℕ, ◌+◌, ◌*◌, ◌%◌, ◌^◌, ◌<◌, ◌≤◌};
-ghost use Rattle.wt_params.specs.Machine.{InRange, IsPrivateSize, IsBlockSize, AreCosts, flat_machine, home_of, shared_block};
+ghost use Rattle.wt_params.specs.Machine.{InRange, IsMachine, IsPrivateSize, IsBlockSize, AreCosts, flat_machine, home_of, shared_block};
 
 use crate::parts::{CostParts, MachineParts};
 use std::marker::Model;
@@ -59,6 +59,14 @@ impl Machine {
                 costs,
             },
         }
+    }
+
+    /// All its numbers, each in its range.
+    pub fn parts(&self) -> MachineParts
+        ensures value { result ≡ self.now }
+        ensures machine { IsMachine self.now }
+    {
+        self.parts
     }
 
     /// How many nodes there are.

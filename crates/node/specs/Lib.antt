@@ -1,0 +1,4 @@
+pub mod Instruction
+pub mod NodeState
+pub mod Event
+pub mod Inside

@@ -1,0 +1,80 @@
+-- What a node is at a moment. Own.
+use Rattle.std.specs.Prelude.{◌≡◌, ℕ, ◌+◌, ◌-◌, ◌%◌, ◌^◌, ◌<◌, ◌≤◌, ◌==◌, [], ◌++◌, Bool, List, length, max, replicate, slice_index, slice_set, if◌then◌else◌, Option, None}
+use Rattle.wt_params.specs.declared.parts.MachineParts.{MachineParts}
+use Rattle.wt_params.specs.Machine.{IsMachine}
+use Rattle.node.specs.declared.counters.Counters.{Counters}
+use Rattle.node.specs.declared.key.Key.{Key}
+use Rattle.node.specs.declared.mode.Mode.{Mode}
+use Rattle.node.specs.declared.mode.Mode.TheVariants.{Running}
+
+pub record NodeState : Type 0 where
+  pub number : ℕ
+  pub registers : List ℕ
+  pub pc : ℕ
+  pub mode : Mode
+  -- when the processor may begin its next step
+  pub ready : ℕ
+  -- until when directory traps keep the node busy
+  pub busy : ℕ
+  -- private memory
+  pub private : List ℕ
+  pub counters : Counters
+  -- the bytes that the program has put out
+  pub output : List ℕ
+  -- the key of the last event handled
+  pub last : Option Key
+
+-- a node of the program: its machine, its state, and whether memory was refused to it
+pub record NodeModel : Type 0 where
+  pub machine : MachineParts
+  pub state : NodeState
+  pub broken : Bool
+
+-- the events that a node has handled
+abbrev pub events_of : NodeState → ℕ
+events_of node = node.counters.steps + node.counters.messages
+
+-- a spent node handles no more events
+abbrev pub is_spent : MachineParts → NodeState → Bool
+is_spent machine node = events_of node == machine.event_limit
+
+-- what every event keeps
+pub record IsNode (machine : MachineParts) (node : NodeState) : Type 0 where
+  pub numbers : IsMachine machine
+  pub registers : length node.registers ≡ 32
+  pub aligned : node.pc % 4 ≡ 0
+  pub private : length node.private ≡ machine.private_bytes
+  pub ready : node.ready < 2 ^ 41
+  pub busy : node.busy < 2 ^ 62
+  pub events : events_of node ≤ machine.event_limit
+  pub done : node.counters.done ≤ node.counters.steps
+
+-- At the start x2 is the size of private memory, x10 the node's number and x11 the number of nodes.
+abbrev pub start_registers : MachineParts → ℕ → List ℕ
+start_registers machine number =
+    slice_set (slice_set (slice_set (replicate 32 0) 2 machine.private_bytes) 10 number) 11 machine.nodes
+
+abbrev pub no_counts : Counters
+no_counts = record {
+  steps = 0; messages = 0; done = 0; hits = 0; misses = 0; upgrades = 0; replaced = 0; checkins = 0; invs = 0;
+  traps = 0; trap_cycles = 0; barriers = 0; stray = 0; sent = 0;
+}
+
+-- bytes from address 0 on, and zeros after them up to the size
+abbrev pub filled_to : ℕ → List ℕ → List ℕ
+filled_to size bytes = bytes ++ replicate (size - length bytes) 0
+
+-- node 0 at the start, with these bytes from address 0 on
+abbrev pub start_node : MachineParts → List ℕ → NodeState
+start_node machine bytes = record {
+  number = 0;
+  registers = start_registers machine 0;
+  pc = 0;
+  mode = Running;
+  ready = 0;
+  busy = 0;
+  private = filled_to machine.private_bytes bytes;
+  counters = no_counts;
+  output = [];
+  last = None;
+}

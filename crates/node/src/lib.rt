@@ -1,0 +1,16 @@
+//! One node of the simulated machine: a processor with its registers and private memory.
+//!
+//! [`Node::handle_step`] is one event of the simulated machine, the next step of the node's processor.
+#![tactic(auto)]
+
+mod counters;
+mod instruction;
+mod key;
+mod mode;
+mod node;
+
+pub use counters::Counters;
+pub use key::Key;
+pub use mode::{Cause, Mode};
+pub use self::node::Node;
+
