@@ -1,5 +1,7 @@
 -- What one event does to its node. Own, but for the instructions, which are those of the RISC-V manual.
 use Rattle.std.specs.Prelude.{◌≡◌, ℕ, ◌+◌, ◌*◌, ◌/◌, ◌%◌, ◌^◌, ◌<◌, ◌==◌, [], ◌∷◌, ◌++◌, List, Option, max, slice_index, slice_set, nat_le, if◌then◌else◌, Some, None}
+use Rattle.std.specs.declared.cmp.Ordering.{Ordering}
+use Rattle.std.specs.Ordering.{nat_cmp, ordering_then}
 use Rattle.wt_params.specs.declared.parts.MachineParts.{MachineParts}
 use Rattle.node.specs.declared.counters.Counters.{Counters}
 use Rattle.node.specs.declared.instruction.Instruction.{Instruction}
@@ -12,13 +14,23 @@ use Rattle.node.specs.declared.mode.Mode.TheVariants.{Running, Stopped}
 use Rattle.node.specs.Instruction.{instruction_of}
 use Rattle.node.specs.NodeState.{NodeState, events_of}
 
--- the next step of a node's processor
+-- The kinds of message. Nothing is sent yet by what is built, so there is none.
+pub data Message : Type 0 where
+
+-- the next step of a node's processor, or a message that comes to the node
 pub data Event : Type 0 where
   Step : Event
+  Arrival : Message → Event
 
 -- A processor's next step begins when it is ready and no trap keeps its node busy.
 abbrev pub step_time : NodeState → ℕ
 step_time node = max node.ready node.busy
+
+-- Keys are compared from left to right.
+abbrev pub key_cmp : Key → Key → Ordering
+key_cmp a b =
+    ordering_then (nat_cmp a.time b.time)
+    (ordering_then (nat_cmp a.to b.to) (ordering_then (nat_cmp a.from b.from) (nat_cmp a.sequence b.sequence)))
 
 abbrev pub step_key : MachineParts → NodeState → Key
 step_key machine node = record { time = step_time node; to = node.number; from = machine.nodes; sequence = 0 }
@@ -104,6 +116,7 @@ counted_step machine node = record node {
 -- The node after an event.
 abbrev pub react : MachineParts → NodeState → Event → NodeState
 react machine node Step = stepped machine (step_time node) (counted_step machine node)
+react machine node (Arrival message) = elim message [ ]
 
 -- when a running processor's next step begins
 abbrev pub next_step_of : NodeState → Option ℕ
