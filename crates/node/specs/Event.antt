@@ -85,7 +85,7 @@ called machine time node =
     else if call == 2 then finished next ready (with_register node 10 node.number)
     else if call == 3 then finished next ready (with_register node 10 machine.nodes)
     else if call == 4 then
-        finished next ready (with_register (with_register node 10 (time % 2 ^ 32)) 11 (time / 2 ^ 32 % 2 ^ 32))
+    finished next ready (with_register (with_register node 10 (time % 2 ^ 32)) 11 (time / 2 ^ 32 % 2 ^ 32))
     else if call == 5 then finished next ready node
     else if call == 93 then exited argument node
     else stopped (causes.Call call) node

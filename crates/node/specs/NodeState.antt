@@ -56,8 +56,20 @@ start_registers machine number =
 
 abbrev pub no_counts : Counters
 no_counts = record {
-  steps = 0; messages = 0; done = 0; hits = 0; misses = 0; upgrades = 0; replaced = 0; checkins = 0; invs = 0;
-  traps = 0; trap_cycles = 0; barriers = 0; stray = 0; sent = 0;
+  steps = 0;
+  messages = 0;
+  done = 0;
+  hits = 0;
+  misses = 0;
+  upgrades = 0;
+  replaced = 0;
+  checkins = 0;
+  invs = 0;
+  traps = 0;
+  trap_cycles = 0;
+  barriers = 0;
+  stray = 0;
+  sent = 0;
 }
 
 -- bytes from address 0 on, and zeros after them up to the size

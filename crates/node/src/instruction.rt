@@ -44,7 +44,11 @@ fn immediate_i(word: u32) -> u32
     ensures { result ≡ immediate_i_of word }
 {
     let bits = word / 0x10_0000;
-    if bits < 0x800 { bits } else { bits + 0xffff_f000 }
+    if bits < 0x800 {
+        bits
+    } else {
+        bits + 0xffff_f000
+    }
 }
 
 /// Bit 31, bits 19 to 12, bit 20, bits 30 to 21 and a 0, sign-extended.
@@ -55,5 +59,9 @@ fn immediate_j(word: u32) -> u32
     let middle = word / 0x10_0000 % 2 * 0x800;
     let high = word / 0x1000 % 0x100 * 0x1000;
     let bits = high + middle + low;
-    if word < 0x8000_0000 { bits } else { bits + 0xfff0_0000 }
+    if word < 0x8000_0000 {
+        bits
+    } else {
+        bits + 0xfff0_0000
+    }
 }

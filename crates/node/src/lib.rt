@@ -9,8 +9,7 @@ mod key;
 mod mode;
 mod node;
 
+pub use self::node::Node;
 pub use counters::Counters;
 pub use key::Key;
 pub use mode::{Cause, Mode};
-pub use self::node::Node;
-

@@ -1,16 +1,15 @@
 ghost use Rattle.std.specs.Prelude.{◌≡◌, ℕ, ◌+◌, ◌%◌, ◌^◌, ◌<◌, ◌≤◌, ◌∷◌, ◌++◌, [], length, true, false, IsTrue, IsErr, IfOk, OnOk, OnErr};
 ghost use Rattle.node.specs.Instruction.{instruction_of};
-ghost use Rattle.node.specs.NodeState.{events_of, is_spent, start_node, filled_to};
+ghost use Rattle.node.specs.NodeState.{IsNode, events_of, is_spent, start_node, filled_to};
 ghost use Rattle.node.specs.Event.{Step, react, step_time, next_step_of, stepped, called, executed, transferred, finished, stopped, exited, with_register, word_at_of, counted_step};
-
-use std::alloc::Global;
-use std::marker::Model;
-use wt_params::{Machine, NoMemory};
 
 use crate::counters::Counters;
 use crate::instruction::{Instruction, decode};
 use crate::key::Key;
 use crate::mode::{Cause, Mode};
+use std::alloc::Global;
+use std::marker::Model;
+use wt_params::{Machine, NoMemory};
 
 const REGISTERS: usize = 32;
 
@@ -48,7 +47,10 @@ impl Node {
     pub fn flat(alloc: Global, machine: &Machine, bytes: &[u8]) -> Result<Node, NoMemory>
         requires { length bytes.now ≤ machine.now.private_bytes }
         ensures { IfOk result (λ node. node ≡ record {
-            machine = machine.now; state = start_node machine.now bytes.now; broken = false }) }
+          machine = machine.now;
+          state = start_node machine.now bytes.now;
+          broken = false;
+        }) }
     {
         let parts = machine.parts();
         let private = filled(alloc, bytes, parts.private_bytes as usize)?;
@@ -124,7 +126,7 @@ impl Node {
     /// Whether the node has handled as many events as the machine allows.
     pub fn spent(&self) -> bool
         ensures spent { result ≡ is_spent self.now.machine self.now.state }
-        ensures bound { events_of self.now.state ≤ self.now.machine.event_limit }
+        ensures node { IsNode self.now.machine self.now.state }
     {
         self.counters.steps + self.counters.messages == self.machine.event_limit()
     }
@@ -150,6 +152,8 @@ impl Node {
         ensures broken { OnErr result (IsTrue self.new.broken) }
         ensures stays_broken { IsTrue self.old.broken → IsErr result }
         ensures machine { self.new.machine ≡ self.old.machine }
+        ensures number { OnOk result (self.new.state.number ≡ self.old.state.number) }
+        ensures events { OnOk result (events_of self.new.state ≡ events_of self.old.state + 1) }
     {
         if self.broken {
             return Err(NoMemory);
@@ -199,7 +203,8 @@ impl Node {
         requires inside { self.old.state.pc < self.old.machine.private_bytes }
         requires whole { self.old.broken ≡ false }
         ensures ok { OnOk result (self.new ≡ record self.old {
-            state = executed self.old.machine time word (instruction_of word) self.old.state }) }
+          state = executed self.old.machine time word (instruction_of word) self.old.state;
+        }) }
         ensures broken { OnErr result (IsTrue self.new.broken) }
         ensures machine { self.new.machine ≡ self.old.machine }
     {
@@ -263,8 +268,11 @@ impl Node {
     /// Appends a byte to the output.
     fn put_byte(&mut self, byte: u8) -> Result<(), NoMemory>
         requires { self.old.broken ≡ false }
-        ensures ok { OnOk result (self.new ≡ record self.old { state = record (self.old.state) {
-            output = self.old.state.output ++ byte ∷ [] } }) }
+        ensures ok { OnOk result (self.new ≡ record self.old {
+          state = record (self.old.state) {
+            output = self.old.state.output ++ byte ∷ [];
+          };
+        }) }
         ensures broken { OnErr result (self.new ≡ record self.old { broken = true }) }
     {
         if self.output.push(byte).is_err() {

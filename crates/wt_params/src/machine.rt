@@ -138,6 +138,7 @@ impl Machine {
     pub fn quantum(&self) -> u64
         ensures value { result ≡ self.now.quantum }
         ensures range { InRange 1 (self.now.latency) result }
+        ensures short { result ≤ 10000 }
     {
         self.parts.quantum
     }

@@ -1,0 +1,2 @@
+pub mod SerialLemmas
+pub mod AloneLemmas

@@ -1,0 +1,8 @@
+//! The simulation of a whole machine, its report, and the top call of the program.
+#![tactic(auto)]
+
+mod head;
+mod simulate;
+
+pub use head::{Head, Outcome};
+pub use simulate::run_alone;
