@@ -2,3 +2,5 @@ pub mod World
 pub mod Serial
 pub mod Outcome
 pub mod Alone
+pub mod Text
+pub mod Report

@@ -2,7 +2,10 @@
 #![tactic(auto)]
 
 mod head;
+mod line;
+mod report;
 mod simulate;
+mod totals;
 
 pub use head::{Head, Outcome};
 pub use simulate::run_alone;

@@ -1,0 +1,199 @@
+ghost use Rattle.std.specs.Prelude.{◌≡◌, ◌<◌, [], ◌∷◌, ◌++◌, length, codes, decimal, IfOk, OnOk};
+ghost use Rattle.wwt_run.specs.Text.{line_end};
+ghost use Rattle.wwt_run.specs.Report.{outcome_text_of, cause_text, state_text, processor_text, counts_text, event_counts_of, cache_counts_of, message_counts_of, output_text, node_line_of, count_line_of, out_line_of, total_line_of, report_lines};
+
+use crate::head::{Head, Outcome};
+use crate::line::Line;
+use crate::totals::{Totals, totals_of_one};
+use node::{Cause, Counters, Mode, Node};
+use std::alloc::Global;
+use wt_params::{Machine, NoMemory};
+
+/// The lines of the report of a machine of one node.
+pub fn report_alone(
+    alloc: Global,
+    machine: &Machine,
+    head: &Head,
+    node: &Node,
+) -> Result<Vec<Line>, NoMemory>
+    requires { node.now.machine ≡ machine.now }
+    ensures { IfOk result (λ lines. lines.items ≡ report_lines machine.now head.now (node.now.state ∷ [])) }
+{
+    let mut lines = Vec::new(alloc);
+    lines.push(outcome(alloc, head.outcome)?)?;
+    lines.push(entry(alloc, b"events ", head.events as u128)?)?;
+    lines.push(entry(alloc, b"time ", head.time as u128)?)?;
+    lines.push(entry(alloc, b"quanta ", head.quanta as u128)?)?;
+    lines.push(node_line(alloc, machine, 0, node)?)?;
+    lines.push(count_line(alloc, 0, node)?)?;
+    lines.push(out_line(alloc, 0, node)?)?;
+    lines.push(total_line(alloc, node)?)?;
+    Ok(lines)
+}
+
+fn outcome(alloc: Global, outcome: Outcome) -> Result<Line, NoMemory>
+    ensures { IfOk result (λ line. line ≡ codes "outcome " ++ outcome_text_of outcome ++ line_end) }
+{
+    let mut line = Line::new(alloc, b"outcome ")?;
+    line.text(outcome_text(outcome))?;
+    line.end()?;
+    Ok(line)
+}
+
+fn outcome_text(outcome: Outcome) -> &'static [u8]
+    ensures { result.now ≡ outcome_text_of outcome }
+{
+    match outcome {
+        Outcome::Finished => b"finished",
+        Outcome::Budget => b"budget",
+        Outcome::EventLimit => b"events",
+        Outcome::Stalled => b"stalled",
+    }
+}
+
+/// A line of a text and a number.
+fn entry(alloc: Global, text: &[u8], number: u128) -> Result<Line, NoMemory>
+    requires { 0 < length text.now }
+    ensures { IfOk result (λ line. line ≡ text.now ++ decimal number ++ line_end) }
+{
+    let mut line = Line::new(alloc, text)?;
+    line.number(number)?;
+    line.end()?;
+    Ok(line)
+}
+
+/// What the node at a place does, where, and when.
+fn node_line(alloc: Global, machine: &Machine, place: u32, node: &Node) -> Result<Line, NoMemory>
+    requires { node.now.machine ≡ machine.now }
+    ensures { IfOk result (λ line. line ≡ node_line_of machine.now place node.now.state) }
+{
+    let mut line = Line::new(alloc, b"node ")?;
+    line.number(place as u128)?;
+    line.text(b" ")?;
+    processor(&mut line, machine, node)?;
+    line.end()?;
+    Ok(line)
+}
+
+fn processor(line: &mut Line, machine: &Machine, node: &Node) -> Result<(), NoMemory>
+    requires { node.now.machine ≡ machine.now }
+    ensures { OnOk result (line.new ≡ line.old ++ processor_text machine.now node.now.state) }
+{
+    state(line, machine, node.mode())?;
+    line.entry_hex(b" pc ", node.pc() as u64)?;
+    line.entry(b" clock ", node.ready().max(node.busy()) as u128)
+}
+
+fn state(line: &mut Line, machine: &Machine, mode: &Mode) -> Result<(), NoMemory>
+    ensures { OnOk result (line.new ≡ line.old ++ state_text machine.now mode.now) }
+{
+    match *mode {
+        Mode::Running => line.text(b"running"),
+        Mode::Waiting {
+            block,
+            exclusive: _,
+        } => {
+            let address = 0x8000_0000 + block as u64 * machine.block_bytes();
+            line.entry_hex(b"waiting ", address)
+        }
+        Mode::InBarrier => line.text(b"barrier"),
+        Mode::Stopped { cause } => stop(line, cause),
+    }
+}
+
+fn stop(line: &mut Line, cause: Cause) -> Result<(), NoMemory>
+    ensures { OnOk result (line.new ≡ line.old ++ cause_text cause) }
+{
+    match cause {
+        Cause::Exit { code } => line.entry(b"exit ", code as u128),
+        Cause::Illegal { word } => line.entry_hex(b"illegal ", word as u64),
+        Cause::Fetch { address } => line.entry_hex(b"fetch ", address as u64),
+        Cause::Target { address } => line.entry_hex(b"target ", address as u64),
+        Cause::Address { address } => line.entry_hex(b"address ", address as u64),
+        Cause::Misaligned { address } => line.entry_hex(b"misaligned ", address as u64),
+        Cause::Call { number } => line.entry(b"call ", number as u128),
+        Cause::Break => line.text(b"break"),
+        Cause::NotYet { word } => line.entry_hex(b"not_yet ", word as u64),
+    }
+}
+
+/// The counters of the node at a place.
+fn count_line(alloc: Global, place: u32, node: &Node) -> Result<Line, NoMemory>
+    ensures { IfOk result (λ line. line ≡ count_line_of place node.now.state) }
+{
+    let mut line = Line::new(alloc, b"count ")?;
+    line.number(place as u128)?;
+    counts(&mut line, &totals_of_one(node.counters()))?;
+    line.end()?;
+    Ok(line)
+}
+
+/// The sums of the counters of one node.
+fn total_line(alloc: Global, node: &Node) -> Result<Line, NoMemory>
+    ensures { IfOk result (λ line. line ≡ total_line_of (node.now.state ∷ [])) }
+{
+    let mut line = Line::new(alloc, b"total")?;
+    counts(&mut line, &totals_of_one(node.counters()))?;
+    line.end()?;
+    Ok(line)
+}
+
+/// Adds the counters in their order, each as its name and its number.
+fn counts(line: &mut Line, counts: &Totals) -> Result<(), NoMemory>
+    ensures { OnOk result (line.new ≡ line.old ++ counts_text counts.now) }
+{
+    event_counts(line, counts)?;
+    cache_counts(line, counts)?;
+    message_counts(line, counts)
+}
+
+fn event_counts(line: &mut Line, counts: &Totals) -> Result<(), NoMemory>
+    ensures { OnOk result (line.new ≡ line.old ++ event_counts_of counts.now) }
+{
+    line.counter(b"steps", counts.steps)?;
+    line.counter(b"messages", counts.messages)?;
+    line.counter(b"done", counts.done)
+}
+
+fn cache_counts(line: &mut Line, counts: &Totals) -> Result<(), NoMemory>
+    ensures { OnOk result (line.new ≡ line.old ++ cache_counts_of counts.now) }
+{
+    line.counter(b"hits", counts.hits)?;
+    line.counter(b"misses", counts.misses)?;
+    line.counter(b"upgrades", counts.upgrades)?;
+    line.counter(b"replaced", counts.replaced)?;
+    line.counter(b"checkins", counts.checkins)?;
+    line.counter(b"invs", counts.invs)
+}
+
+fn message_counts(line: &mut Line, counts: &Totals) -> Result<(), NoMemory>
+    ensures { OnOk result (line.new ≡ line.old ++ message_counts_of counts.now) }
+{
+    line.counter(b"traps", counts.traps)?;
+    line.counter(b"trap_cycles", counts.trap_cycles)?;
+    line.counter(b"barriers", counts.barriers)?;
+    line.counter(b"stray", counts.stray)?;
+    line.counter(b"sent", counts.sent)
+}
+
+/// The bytes that the program of the node at a place has put out.
+fn out_line(alloc: Global, place: u32, node: &Node) -> Result<Line, NoMemory>
+    ensures { IfOk result (λ line. line ≡ out_line_of place node.now.state) }
+{
+    let mut line = Line::new(alloc, b"out ")?;
+    line.number(place as u128)?;
+    line.entry(b" ", node.output().len() as u128)?;
+    output(&mut line, node.output())?;
+    line.end()?;
+    Ok(line)
+}
+
+fn output(line: &mut Line, bytes: &[u8]) -> Result<(), NoMemory>
+    ensures { OnOk result (line.new ≡ line.old ++ output_text bytes.now) }
+{
+    if bytes.is_empty() {
+        return Ok(());
+    }
+    line.text(b" ")?;
+    line.hex_pairs(bytes)
+}
