@@ -1,4 +1,4 @@
-ghost use Rattle.std.specs.Prelude.{◌≡◌, ◌≢◌, ◌≤◌, [], Some, IfOk, OnOk, OnErr, is_ok};
+ghost use Rattle.std.specs.Prelude.{◌≡◌, ◌<◌, ◌≤◌, [], Some, length, IfOk, OnOk, OnErr, is_ok};
 ghost use Rattle.wt_outside.specs.Faults.{Rose};
 ghost use Rattle.wt_outside.specs.Growth.{Grows, GrowsByPrefix};
 ghost use Rattle.wt_outside.specs.MemBytes.{is_done, after_write};
@@ -63,7 +63,7 @@ impl Sink for MemSink {
     ghost faults = { λ s. s.faults };
 
     fn write(&mut self, bytes: &[u8]) -> Result<(), Failed>
-        requires { bytes.now ≢ [] }
+        requires { 0 < length bytes.now }
 
         // Which write fails, and what each adds.
         ensures done { is_ok result ≡ is_done self.old bytes.now }

@@ -1,4 +1,4 @@
-ghost use Rattle.std.specs.Prelude.{◌≡◌, ◌≢◌, ℕ, ◌≤◌, List, [], Option, OnOk, OnErr};
+ghost use Rattle.std.specs.Prelude.{◌≡◌, ℕ, ◌<◌, ◌≤◌, List, length, Option, OnOk, OnErr};
 ghost use Rattle.wt_outside.specs.Faults.{Rose};
 ghost use Rattle.wt_outside.specs.Growth.{Grows, GrowsByPrefix};
 
@@ -19,7 +19,7 @@ pub trait Sink {
 
     /// Writes all of these bytes, or fails with some first part of them written.
     fn write(&mut self, bytes: &[u8]) -> Result<(), Failed>
-        requires { bytes.now ≢ [] }
+        requires { 0 < length bytes.now }
         ensures ok { OnOk result (Grows (written self.old) (written self.new) bytes.now) }
         ensures err { OnErr result (GrowsByPrefix (written self.old) (written self.new) bytes.now) }
 
