@@ -1,0 +1,6 @@
+pub mod Answers
+pub mod Faults
+pub mod Files
+pub mod Growth
+pub mod MemBytes
+pub mod MemFiles
