@@ -1,9 +1,8 @@
 -- What one event does to its node. Own, but for the instructions, which are those of the RISC-V manual.
-use Rattle.std.specs.Prelude.{◌≡◌, ℕ, ◌+◌, ◌*◌, ◌/◌, ◌%◌, ◌^◌, ◌<◌, ◌==◌, [], ◌∷◌, ◌++◌, List, Option, max, slice_index, slice_set, nat_le, if◌then◌else◌, Some, None}
+use Rattle.std.specs.Prelude.{ℕ, ◌+◌, ◌*◌, ◌/◌, ◌%◌, ◌^◌, ◌==◌, [], ◌∷◌, ◌++◌, List, Option, max, slice_index, slice_set, nat_le, if◌then◌else◌, Some, None}
 use Rattle.std.specs.declared.cmp.Ordering.{Ordering}
 use Rattle.std.specs.Ordering.{nat_cmp, ordering_then}
 use Rattle.wt_params.specs.declared.parts.MachineParts.{MachineParts}
-use Rattle.node.specs.declared.counters.Counters.{Counters}
 use Rattle.node.specs.declared.instruction.Instruction.{Instruction}
 use Rattle.node.specs.declared.instruction.Instruction.TheVariants.{Addi, Jal, Ecall, Illegal, NotYet}
 use Rattle.node.specs.declared.key.Key.{Key}
@@ -12,7 +11,7 @@ use Rattle.node.specs.declared.mode.Cause.TheVariants as causes
 use Rattle.node.specs.declared.mode.Mode.{Mode}
 use Rattle.node.specs.declared.mode.Mode.TheVariants.{Running, Stopped}
 use Rattle.node.specs.Instruction.{instruction_of}
-use Rattle.node.specs.NodeState.{NodeState, events_of}
+use Rattle.node.specs.NodeState.{NodeState}
 
 -- The kinds of message. Nothing is sent yet by what is built, so there is none.
 pub data Message : Type 0 where

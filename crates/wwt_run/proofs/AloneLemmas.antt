@@ -1,7 +1,7 @@
 -- The serial run of a machine of one node.
-use Rattle.std.proofs.Common.{◌≡◌, ℕ, suc, ◌+◌, ◌-◌, ◌*◌, ◌≤◌, max, List, [], ◌∷◌, ◌++◌, length, Bool, true, false, cond, eqb, Some, None, Option, refl, ap, sym, ◌∙◌, subst, arith, rules}
+use Rattle.std.proofs.Common.{◌≡◌, ℕ, suc, ◌+◌, ◌-◌, ◌*◌, ◌≤◌, max, List, [], ◌∷◌, ◌++◌, length, Bool, true, false, cond, eqb, Some, None, refl, ap, sym, ◌∙◌, subst, arith, rules}
 use Rattle.std.specs.Prelude.{◌&&◌, ◌||◌, not, nat_le, flat_map, if◌then◌else◌, ◌==◌}
-use Rattle.std.specs.FinMap.{FinMap, entries, empty, len, len-empty, len-entries}
+use Rattle.std.specs.FinMap.{FinMap, entries, empty, len-empty, len-entries}
 use Rattle.wt_params.specs.declared.parts.MachineParts.{MachineParts}
 use Rattle.node.specs.declared.key.Key.{Key}
 use Rattle.node.specs.declared.mode.Mode.{Mode}
@@ -10,10 +10,9 @@ use Rattle.node.specs.NodeState.{NodeState, is_spent, events_of}
 use Rattle.node.specs.Event.{Event, Step, Message, key_cmp, step_key, step_time, react}
 use Rattle.wwt_run.specs.declared.head.Outcome.{Outcome}
 use Rattle.wwt_run.specs.declared.head.Outcome.TheVariants.{Finished, Budget, EventLimit, Stalled}
-use Rattle.wwt_run.specs.World.{World, alone, is_running, counts_at, steps_of, arrivals_at, events_in}
-use Rattle.wwt_run.specs.Serial.{serial, final, least, after_least, serial_step, with_quantum, handled}
+use Rattle.wwt_run.specs.World.{alone, is_running, steps_of, arrivals_at, events_in}
+use Rattle.wwt_run.specs.Serial.{serial, final, least, after_least, serial_step, with_quantum}
 use Rattle.wwt_run.specs.Outcome.{head_of, outcome_of, is_stopped, last_time_of}
-use Rattle.wwt_run.specs.declared.head.Head.{Head}
 use Rattle.wwt_run.proofs.SerialLemmas.{serial-zero, serial-suc, serial-rests}
 use Rattle.wwt_run.specs.Alone.{world_of, has_step, due_in, kept_end_after, quanta_after, outcome_alone, ending_of}
 

@@ -1,3 +1,6 @@
 pub mod SerialLemmas
 pub mod AloneLemmas
 pub mod Appends
+pub mod FlatLemmas
+pub mod LineLemmas
+pub mod AnswerLemmas

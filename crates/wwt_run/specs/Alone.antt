@@ -1,5 +1,5 @@
 -- A machine of one node in the middle of its run. Own.
-use Rattle.std.specs.Prelude.{ℕ, ◌+◌, ◌&&◌, min, nat_le, Bool, List, [], ◌∷◌, Option, Some, None, if◌then◌else◌}
+use Rattle.std.specs.Prelude.{ℕ, ◌+◌, ◌&&◌, min, nat_le, Bool, [], ◌∷◌, Option, Some, None, if◌then◌else◌}
 use Rattle.std.specs.FinMap.{empty}
 use Rattle.wt_params.specs.declared.parts.MachineParts.{MachineParts}
 use Rattle.node.specs.declared.mode.Mode.{Mode}

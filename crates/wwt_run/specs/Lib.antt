@@ -4,3 +4,6 @@ pub mod Outcome
 pub mod Alone
 pub mod Text
 pub mod Report
+pub mod Status
+pub mod Case
+pub mod Answer

@@ -1,5 +1,5 @@
 -- The whole machine at a moment, and the events that it has. Own.
-use Rattle.std.specs.Prelude.{ℕ, ◌+◌, ◌<◌, ◌==◌, ◌&&◌, not, nat_lt, Bool, true, false, List, [], ◌∷◌, ◌++◌, Option, Some, None, option_to_list, if◌then◌else◌, flat_map}
+use Rattle.std.specs.Prelude.{ℕ, ◌==◌, ◌&&◌, not, nat_lt, Bool, true, false, List, [], ◌∷◌, ◌++◌, if◌then◌else◌, flat_map}
 use Rattle.std.specs.FinMap.{FinMap, entries, empty}
 use Rattle.wt_params.specs.declared.parts.MachineParts.{MachineParts}
 use Rattle.node.specs.declared.key.Key.{Key}

@@ -1,11 +1,19 @@
 //! The simulation of a whole machine, its report, and the top call of the program.
 #![tactic(auto)]
 
+mod flat;
 mod head;
 mod line;
+mod refusal;
+mod refuse;
 mod report;
 mod simulate;
+mod status;
+mod top;
 mod totals;
 
 pub use head::{Head, Outcome};
+pub use refusal::{ImageRefusal, Refusal};
 pub use simulate::run_alone;
+pub use status::Status;
+pub use top::wwt_plain;

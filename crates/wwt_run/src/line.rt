@@ -1,4 +1,4 @@
-ghost use Rattle.std.specs.Prelude.{◌≡◌, ◌≢◌, ℕ, ◌<◌, [], ◌++◌, length, codes, decimal, IfOk, OnOk};
+ghost use Rattle.std.specs.Prelude.{◌≡◌, ℕ, ◌<◌, ◌++◌, length, codes, decimal, IfOk, OnOk};
 ghost use Rattle.wwt_run.specs.Text.{hex, named, hex_pairs_of, hex_digit_of, line_end};
 
 use itoa::Buffer;
@@ -35,7 +35,7 @@ impl Line {
     /// All the bytes so far, at least one.
     pub fn as_bytes(&self) -> &[u8]
         ensures value { result.now ≡ self.now }
-        ensures nonempty { result.now ≢ [] }
+        ensures nonempty { 0 < length result.now }
     {
         &self.bytes
     }

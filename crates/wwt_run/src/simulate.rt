@@ -39,6 +39,7 @@ pub fn run_alone(machine: &Machine, node: &mut Node) -> Result<Head, NoMemory>
     requires machine { node.old.machine ≡ machine.now }
     requires one { machine.now.nodes ≡ 1 }
     ensures head { IfOk result (λ head. head ≡ head_of machine.now (final machine.now (alone node.old.state))) }
+    ensures kept { node.new.machine ≡ node.old.machine }
     ensures nodes { OnOk result ((final machine.now (alone node.old.state)).nodes ≡ node.new.state ∷ []) }
 {
     let mut quanta = Quanta {

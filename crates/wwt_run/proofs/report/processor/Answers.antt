@@ -1,4 +1,4 @@
-use Rattle.std.proofs.Common.{◌≡◌, ◌++◌, List, ℕ, max, codes, decimal, ap, ◌∙◌}
+use Rattle.std.proofs.Common.{◌≡◌, ◌++◌, max, codes, decimal, ap, ◌∙◌}
 use Rattle.std.proofs.lemmas.Result.{on_ok_weaker}
 use Rattle.wwt_run.specs.Text.{hex}
 use Rattle.wwt_run.specs.Report.{state_text, processor_text}

@@ -1,4 +1,3 @@
-use Rattle.std.proofs.Common.{sym, ◌∙◌}
 use Rattle.wwt_run.proofs.AloneLemmas.{head_of-alone}
 use Rattle.wwt_run.proofs.simulate.head.Goals as goal
 

@@ -3,7 +3,7 @@ use Rattle.node.specs.NodeState.{NodeModel}
 use Rattle.node.specs.Event.{Step, react}
 use Rattle.wwt_run.specs.Outcome.{head_of}
 use Rattle.wwt_run.specs.World.{World}
-use Rattle.wwt_run.proofs.AloneLemmas.{begun, gone_on, ended, head_of-alone}
+use Rattle.wwt_run.proofs.AloneLemmas.{begun, gone_on, ended}
 use Rattle.wwt_run.proofs.simulate.run_alone.Goals as goal
 
 pub loop-time-init : goal.loop-time-init
