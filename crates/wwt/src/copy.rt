@@ -1,8 +1,8 @@
-ghost use Rattle.std.specs.Prelude.{◌≡◌, ℕ, ◌<◌, ◌≤◌, ◌⊎◌, [], length, map, IfOk, IfSome, OnOk, OnErr, IsErrOf, IsSomeAnd, slice_index_or, vec_len};
+ghost use Rattle.std.specs.Prelude.{◌≡◌, ℕ, ◌<◌, ◌≤◌, ◌⊎◌, length, map, IfSome, OnOk, OnErr, IsSomeAnd, slice_index_or, vec_len};
 ghost use Rattle.std.specs.List.{concat};
 ghost use Rattle.std.specs.FinMap.{get};
 ghost use Rattle.wt_outside.specs.Faults.{Rose, Stood};
-ghost use Rattle.wt_outside.specs.Files.{IsMissing, HoldsThere};
+ghost use Rattle.wt_outside.specs.Files.{IsMissing};
 ghost use Rattle.wt_outside.specs.Growth.{Grows, GrowsByPrefix};
 
 use wt_outside::{Failed, Sink, Store, StoreFail};

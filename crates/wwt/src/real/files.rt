@@ -1,6 +1,7 @@
-ghost use Rattle.std.specs.Prelude.{◌≡◌, ℕ, ◌<◌, ◌≤◌, None, length, IfOk, IfSome, IsErrOf, vec_len};
+ghost use Rattle.std.specs.Prelude.{◌≡◌, ℕ, ◌+◌, ◌<◌, ◌≤◌, None, length, IfOk, IfSome, IsErrOf, vec_len};
 ghost use Rattle.wt_outside.specs.Answers.{UnlessFailed};
 ghost use Rattle.wt_outside.specs.Faults.{Rose};
+ghost use Rattle.wwt.specs.Takes.{TakesAtMost};
 
 use std::alloc::Global;
 use std::fs;
@@ -60,6 +61,9 @@ fn read_whole<I: Read>(
     // All that a reader had left, where that is known.
     ensures whole { IfOk result (λ bytes. IfSome (I.remaining input.old) (λ left. left ≡ bytes.items)) }
     ensures longer { IsErrOf result StoreFail.TooLong → IfSome (I.remaining input.old) (λ left. limit < length left) }
+
+    // Reading stops one byte past the limit.
+    ensures stops { TakesAtMost (I.remaining input.old) (I.remaining input.new) (limit + 1) }
 
     ensures failed { IsErrOf result StoreFail.Failed → Rose faults.old faults.new }
     ensures steady { UnlessFailed result (faults.new ≡ faults.old) }

@@ -1,4 +1,4 @@
-use Rattle.std.proofs.Common.{◌≡◌, ◌+◌, ◌-◌, vec_len}
+use Rattle.std.proofs.Common.{◌≡◌, ◌+◌, ◌-◌, ◌≤◌, length, vec_len}
 use Rattle.std.specs.Io.KnownBytes.{Consumes}
 use Rattle.wwt.proofs.real.files.read_whole.Given as goal
 
@@ -7,6 +7,7 @@ abbrev pub invariant-loop-chunk : goal.invariant-loop-chunk
 invariant-loop-chunk g l =
     record {
       taken : Consumes (g.I.Read.remaining l.fn.input) (g.I.Read.remaining l.input) l.bytes.items;
+      few : length l.bytes.items ≤ l.limit + 1;
       no_fault : l.faults ≡ l.fn.faults;
     }
 
