@@ -1,4 +1,4 @@
-ghost use Rattle.std.specs.Prelude.{◌≡◌, ℕ, ◌≤◌, ◌⊎◌, ◌^◌, ◌-◌, List, Option, IfOk, IsSome, IsErrOf, vec_len};
+ghost use Rattle.std.specs.Prelude.{◌≡◌, ℕ, ◌≤◌, ◌⊎◌, Option, IfOk, IsSome, IsErrOf, vec_len};
 ghost use Rattle.wt_outside.specs.Faults.{Rose, Stood};
 ghost use Rattle.wt_outside.specs.Files.{Files, IsMissing, HoldsThere, IsLonger};
 
