@@ -1,28 +1,33 @@
-//! Writes the bytes of the files that it is given.
+//! The program `wwt`: its command line over the host's files and streams.
 #![tactic(auto)]
 
-mod copy;
 mod real;
 
-use copy::copy;
 use real::{ErrSink, FileStore, OutSink};
-use std::env;
 use std::process::ExitCode;
+use std::rt::Env;
+use std::{env, io};
 use wt_outside::Sink;
+use wwt_run::{Status, wwt_plain};
 
 fn main(rt: HostRuntime) -> ExitCode {
     let mut store = FileStore::new(rt);
     let mut out = OutSink::new(rt.stdout());
     let mut err = ErrSink::new(rt.stderr());
-    let mut status = 0;
-    if let Ok(words) = env::args(&rt) {
-        for word in words.skip(1) {
-            status = copy(&mut store, &mut out, &word);
-            if status != 0 {
-                let _ = err.write(b"error\n");
-                break;
-            }
+    let status = match words(&rt) {
+        Ok(words) => wwt_plain(rt.alloc(), &words, &mut store, &mut out, &mut err).unwrap(),
+        Err(error) if error.kind() == io::ErrorKind::OutOfMemory => {
+            let _ = err.write(b"wwt: out of memory\n");
+            Status::NoMemory
         }
-    }
-    ExitCode::from(status)
+        // A word that isn't text is refused as no words are.
+        Err(_) => wwt_plain(rt.alloc(), &[], &mut store, &mut out, &mut err).unwrap(),
+    };
+    ExitCode::from(status.code())
+}
+
+/// The words of the command line after the program's own name.
+fn words(rt: &(impl Env + AllocGlobal)) -> io::Result<Vec<String>> {
+    let words = env::args(rt)?.skip(1).collect(rt.alloc())?;
+    Ok(words)
 }
