@@ -17,3 +17,6 @@ pub use refusal::{ImageRefusal, Refusal};
 pub use simulate::run_alone;
 pub use status::Status;
 pub use top::wwt_plain;
+
+#[cfg(test)]
+mod tests;
