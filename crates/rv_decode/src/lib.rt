@@ -1,13 +1,10 @@
-// A library with one function.
+//! The instructions of RV32I and three annotations as data: a word is decoded, encoded and printed exactly by
+//! the instruction table.
+//!
+//! The instructions are those of the RISC-V unprivileged manual, RV32I. The three annotations stand in the
+//! opcode custom-0 and are this project's own, and so it is that every word outside the table is illegal.
 #![tactic(auto)]
 
-ghost use Rattle.std.specs.Prelude.{◌≡◌};
-ghost use Rattle.rv_decode.specs.Echo.{echo_of};
+mod instr;
 
-// The `ensures` clause is the contract: what `echo` returns is `echo_of` of its argument, a definition
-// in `specs/Echo.antt`, which a caller's clause can cite too.
-pub fn echo(x: usize) -> usize
-    ensures { result ≡ echo_of x }
-{
-    x
-}
+pub use instr::{CicoOp, Instr, LoadOp, StoreOp};

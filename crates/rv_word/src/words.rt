@@ -20,5 +20,9 @@ pub fn sign_extend(value: u32, width: u32) -> u32
 {
     let mask = u32::MAX >> (32 - width);
     let kept = value & mask;
-    if kept < 1 << (width - 1) { kept } else { kept + (u32::MAX - mask) }
+    if kept < 1 << (width - 1) {
+        kept
+    } else {
+        kept + (u32::MAX - mask)
+    }
 }
