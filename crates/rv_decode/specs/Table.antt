@@ -1,6 +1,6 @@
 -- The instruction table. From the RISC-V unprivileged manual, "RV32/64G Instruction Set Listings", RV32I; the rows of
 -- check_out_s, check_out_x and check_in, in the opcode custom-0, are own, and so it is that any other word is illegal.
-use Rattle.std.specs.Prelude.{ℕ, ℤ, pos, ◌≤◌, ◌==◌, Bool, List, [], ◌∷◌, Option, Some, None, find, count_by, bit_and}
+use Rattle.std.specs.Prelude.{ℕ, ℤ, pos, ◌≤◌, ◌==◌, Bool, List, [], ◌∷◌, Option, Some, None, find, filter, length, bit_and}
 use Rattle.rv_word.specs.Words.{bits_of, signed}
 use Rattle.rv_word.specs.Immediates.{i_immediate, s_immediate, b_immediate, j_immediate}
 use Rattle.rv_word.specs.declared.operations.AluOp.TheVariants.{Add, Sub, Sll, Slt, Sltu, Xor, Srl, Sra, Or, And}
@@ -123,4 +123,4 @@ decode_of word = meaning word (find (matches word) instruction_table)
 
 -- a word matches one row at most
 abbrev pub MatchesAtMostOne : ℕ → Type 0
-MatchesAtMostOne word = count_by (matches word) instruction_table ≤ 1
+MatchesAtMostOne word = length (filter (matches word) instruction_table) ≤ 1

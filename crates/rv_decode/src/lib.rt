@@ -5,6 +5,11 @@
 //! opcode custom-0 and are this project's own, and so it is that every word outside the table is illegal.
 #![tactic(auto)]
 
+mod codes;
+mod decoder;
 mod instr;
+mod table;
 
+pub use decoder::decode;
 pub use instr::{CicoOp, Instr, LoadOp, StoreOp};
+pub use table::at_most_one_row;

@@ -1,0 +1,5 @@
+pub mod Illegal
+pub mod Masks
+pub mod Rows
+pub mod Search
+pub mod WellFormed
