@@ -1,3 +1,4 @@
+pub mod Congruence
 pub mod Illegal
 pub mod Masks
 pub mod Rows

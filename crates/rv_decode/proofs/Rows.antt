@@ -1,5 +1,8 @@
 -- The rows of the table by the fields of a word.
-use Rattle.std.proofs.Common.{◌≡◌, ℕ, ◌+◌, ◌*◌, [], ◌∷◌, refl, ap, ◌∙◌, arith, ◌⊎◌, inl, inr}
+use Rattle.std.proofs.Common.{ℤ, pos, subst, sym, ◌≡◌, ℕ, ◌+◌, ◌*◌, [], ◌∷◌, refl, ap, ◌∙◌, arith, ◌⊎◌, inl, inr}
+use Rattle.std.specs.Prelude.{negsuc, unsigned_abs}
+use Rattle.std.proofs.lemmas.Int.{ints}
+use Rattle.rv_decode.specs.Fields.{IsShort, IsShiftAmount, FitsOperation}
 use Rattle.std.specs.Prelude.{filter}
 use Rattle.rv_word.specs.declared.operations.AluOp.{AluOp}
 use Rattle.rv_word.specs.declared.operations.AluOp.TheVariants.{Add, Sub, Sll, Slt, Sltu, Xor, Srl, Sra, Or, And}
@@ -133,6 +136,43 @@ shift_by_code Srl h = tt
 shift_by_code Sra h = tt
 shift_by_code Or h = elim h [ inl e ↦ cc | inr e ↦ cc ]
 shift_by_code And h = elim h [ inl e ↦ cc | inr e ↦ cc ]
+
+amount_of : (imm : ℤ) → IsShiftAmount imm → pos (unsigned_abs imm) ≡ imm
+amount_of (pos n) fits = refl
+amount_of (negsuc n) fits = absurd (omega (arith, ints))
+
+-- the shifts by their names, and the other operations with a constant
+pub shift_by_name : (op : AluOp) → (op ≡ Sll) ⊎ ((op ≡ Srl) ⊎ (op ≡ Sra)) → IsShift op
+shift_by_name op h =
+    elim h [
+      inl e ↦ subst IsShift (sym e) tt
+    | inr h ↦ elim h [ inl e ↦ subst IsShift (sym e) tt | inr e ↦ subst IsShift (sym e) tt ]
+    ]
+
+pub short_by_name : (op : AluOp) (imm : ℤ) → FitsOperation op imm → (op ≡ Sll → ⊥) → (op ≡ Srl → ⊥) → (op ≡ Sra → ⊥) → HasShort op × IsShort imm
+short_by_name Add imm fits l r a = (tt, fits)
+short_by_name Sub imm fits l r a = absurd fits
+short_by_name Sll imm fits l r a = absurd (l refl)
+short_by_name Slt imm fits l r a = (tt, fits)
+short_by_name Sltu imm fits l r a = (tt, fits)
+short_by_name Xor imm fits l r a = (tt, fits)
+short_by_name Srl imm fits l r a = absurd (r refl)
+short_by_name Sra imm fits l r a = absurd (a refl)
+short_by_name Or imm fits l r a = (tt, fits)
+short_by_name And imm fits l r a = (tt, fits)
+
+-- the amount of a shift isn't negative
+pub amount_of_shift : (op : AluOp) (imm : ℤ) → IsShift op → FitsOperation op imm → pos (unsigned_abs imm) ≡ imm
+amount_of_shift Add imm h fits = absurd h
+amount_of_shift Sub imm h fits = absurd h
+amount_of_shift Sll imm h fits = amount_of imm fits
+amount_of_shift Slt imm h fits = absurd h
+amount_of_shift Sltu imm h fits = absurd h
+amount_of_shift Xor imm h fits = absurd h
+amount_of_shift Srl imm h fits = amount_of imm fits
+amount_of_shift Sra imm h fits = amount_of imm fits
+amount_of_shift Or imm h fits = absurd h
+amount_of_shift And imm h fits = absurd h
 
 pub shift_row : (op : AluOp) → IsShift op → (word : ℕ) → opcode_of word ≡ 0x13 → funct3_of word ≡ alu_code op → funct7_of word ≡ alu_code7 op → decode_of word ≡ shift_format (OpImm op) word
 unfolding instruction_table

@@ -1,4 +1,4 @@
-ghost use Rattle.std.specs.Prelude.{◌≡◌, ◌≢◌, MatchOption};
+ghost use Rattle.std.specs.Prelude.{◌≡◌, ◌≢◌, ◌<◌, MatchOption};
 ghost use Rattle.rv_decode.specs.Codes.{branch_code, load_code, store_code, cico_code, alu_code, alu_code7};
 ghost use Rattle.rv_word.specs.declared.operations.AluOp.{AluOp};
 ghost use Rattle.rv_word.specs.declared.operations.BranchOp.{BranchOp};
@@ -80,5 +80,86 @@ pub(crate) fn alu_op(funct3: u32, funct7: u32) -> Option<AluOp>
         (6, 0) => Some(AluOp::Or),
         (7, 0) => Some(AluOp::And),
         _ => None,
+    }
+}
+
+/// The funct3 of a branch.
+pub(crate) fn funct3_of_branch(op: BranchOp) -> u32
+    ensures value { result ≡ branch_code op }
+    ensures range { result < 8 }
+{
+    match op {
+        BranchOp::Beq => 0,
+        BranchOp::Bne => 1,
+        BranchOp::Blt => 4,
+        BranchOp::Bge => 5,
+        BranchOp::Bltu => 6,
+        BranchOp::Bgeu => 7,
+    }
+}
+
+/// The funct3 of a load.
+pub(crate) fn funct3_of_load(op: LoadOp) -> u32
+    ensures value { result ≡ load_code op }
+    ensures range { result < 8 }
+{
+    match op {
+        LoadOp::Lb => 0,
+        LoadOp::Lh => 1,
+        LoadOp::Lw => 2,
+        LoadOp::Lbu => 4,
+        LoadOp::Lhu => 5,
+    }
+}
+
+/// The funct3 of a store.
+pub(crate) fn funct3_of_store(op: StoreOp) -> u32
+    ensures value { result ≡ store_code op }
+    ensures range { result < 8 }
+{
+    match op {
+        StoreOp::Sb => 0,
+        StoreOp::Sh => 1,
+        StoreOp::Sw => 2,
+    }
+}
+
+/// The funct3 of an annotation.
+pub(crate) fn funct3_of_cico(op: CicoOp) -> u32
+    ensures value { result ≡ cico_code op }
+    ensures range { result < 8 }
+{
+    match op {
+        CicoOp::CheckOutS => 0,
+        CicoOp::CheckOutX => 1,
+        CicoOp::CheckIn => 2,
+    }
+}
+
+/// The funct3 of an operation.
+pub(crate) fn funct3_of_alu(op: AluOp) -> u32
+    ensures value { result ≡ alu_code op }
+    ensures range { result < 8 }
+{
+    match op {
+        AluOp::Add | AluOp::Sub => 0,
+        AluOp::Sll => 1,
+        AluOp::Slt => 2,
+        AluOp::Sltu => 3,
+        AluOp::Xor => 4,
+        AluOp::Srl | AluOp::Sra => 5,
+        AluOp::Or => 6,
+        AluOp::And => 7,
+    }
+}
+
+/// The funct7 of an operation.
+pub(crate) fn funct7_of_alu(op: AluOp) -> u32
+    ensures value { result ≡ alu_code7 op }
+    ensures range { result < 128 }
+{
+    match op {
+        AluOp::Sub | AluOp::Sra => 0x20,
+        AluOp::Add | AluOp::Sll | AluOp::Slt | AluOp::Sltu | AluOp::Xor | AluOp::Srl | AluOp::Or | AluOp::And => 0,
     }
 }

@@ -7,9 +7,15 @@
 
 mod codes;
 mod decoder;
+mod encoder;
+mod fields;
+mod formats;
 mod instr;
+mod names;
 mod table;
+mod text;
 
 pub use decoder::decode;
+pub use encoder::encode;
 pub use instr::{CicoOp, Instr, LoadOp, StoreOp};
 pub use table::at_most_one_row;
