@@ -145,8 +145,8 @@ amount_of (negsuc n) fits = absurd (omega (arith, ints))
 pub shift_by_name : (op : AluOp) → (op ≡ Sll) ⊎ ((op ≡ Srl) ⊎ (op ≡ Sra)) → IsShift op
 shift_by_name op h =
     elim h [
-      inl e ↦ subst IsShift (sym e) tt
-    | inr h ↦ elim h [ inl e ↦ subst IsShift (sym e) tt | inr e ↦ subst IsShift (sym e) tt ]
+      | inl e ↦ subst IsShift (sym e) tt
+      | inr h ↦ elim h [ inl e ↦ subst IsShift (sym e) tt | inr e ↦ subst IsShift (sym e) tt ]
     ]
 
 pub short_by_name : (op : AluOp) (imm : ℤ) → FitsOperation op imm → (op ≡ Sll → ⊥) → (op ≡ Srl → ⊥) → (op ≡ Sra → ⊥) → HasShort op × IsShort imm

@@ -70,17 +70,17 @@ abbrev pub register_text : ℕ → List ℕ
 register_text register = codes "x" ++ decimal register
 
 abbrev pub place_text : ℕ → ℤ → List ℕ
-place_text rs1 imm = signed_decimal imm ++ codes "(" ++ register_text rs1 ++ codes ")"
+place_text rs1 imm = signed_decimal imm ++ (codes "(" ++ (register_text rs1 ++ codes ")"))
 
 -- the name, a space, and the operands, between which stand a comma and a space
 abbrev pub one_operand : List ℕ → List ℕ → List ℕ
-one_operand name first = name ++ codes " " ++ first
+one_operand name first = name ++ (codes " " ++ first)
 
 abbrev pub two_operands : List ℕ → List ℕ → List ℕ → List ℕ
-two_operands name first second = name ++ codes " " ++ first ++ codes ", " ++ second
+two_operands name first second = name ++ (codes " " ++ (first ++ (codes ", " ++ second)))
 
 abbrev pub three_operands : List ℕ → List ℕ → List ℕ → List ℕ → List ℕ
-three_operands name first second third = name ++ codes " " ++ first ++ codes ", " ++ second ++ codes ", " ++ third
+three_operands name first second third = two_operands name first (second ++ (codes ", " ++ third))
 
 -- hexadecimal, in lower case and without leading zeros
 abbrev pub upper_text : ℕ → List ℕ

@@ -160,6 +160,13 @@ pub(crate) fn funct7_of_alu(op: AluOp) -> u32
 {
     match op {
         AluOp::Sub | AluOp::Sra => 0x20,
-        AluOp::Add | AluOp::Sll | AluOp::Slt | AluOp::Sltu | AluOp::Xor | AluOp::Srl | AluOp::Or | AluOp::And => 0,
+        AluOp::Add
+        | AluOp::Sll
+        | AluOp::Slt
+        | AluOp::Sltu
+        | AluOp::Xor
+        | AluOp::Srl
+        | AluOp::Or
+        | AluOp::And => 0,
     }
 }

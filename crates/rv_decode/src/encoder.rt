@@ -2,7 +2,9 @@ ghost use Rattle.std.specs.Prelude.{◌≡◌, ◌↔◌, IsSome, IfSome, Some};
 ghost use Rattle.rv_decode.specs.Fields.{IsRegister, FitsOperation, IsEncodable};
 ghost use Rattle.rv_decode.specs.Table.{decode_of};
 
-use crate::codes::{funct3_of_alu, funct3_of_branch, funct3_of_cico, funct3_of_load, funct3_of_store, funct7_of_alu};
+use crate::codes::{
+    funct3_of_alu, funct3_of_branch, funct3_of_cico, funct3_of_load, funct3_of_store, funct7_of_alu,
+};
 use crate::fields::is_encodable;
 use crate::formats::{b_word, i_word, j_word, r_word, s_word, u_word};
 use crate::instr::Instr;
@@ -37,7 +39,14 @@ fn word_of(instr: &Instr) -> u32
         Instr::Load { op, rd, rs1, imm } => i_word(0x03, funct3_of_load(op), rd, rs1, imm),
         Instr::Store { op, rs1, rs2, imm } => s_word(0x23, funct3_of_store(op), rs1, rs2, imm),
         Instr::OpImm { op, rd, rs1, imm } => constant_word(op, rd, rs1, imm),
-        Instr::Op { op, rd, rs1, rs2 } => r_word(0x33, funct3_of_alu(op), funct7_of_alu(op), rd, rs1, rs2),
+        Instr::Op { op, rd, rs1, rs2 } => r_word(
+            0x33,
+            funct3_of_alu(op),
+            funct7_of_alu(op),
+            rd,
+            rs1,
+            rs2,
+        ),
         Instr::Fence => 0x0ff0_000f,
         Instr::Ecall => 0x0000_0073,
         Instr::Ebreak => 0x0010_0073,
@@ -55,7 +64,14 @@ fn constant_word(op: AluOp, rd: u8, rs1: u8, imm: i32) -> u32
 {
     match op {
         AluOp::Sll | AluOp::Srl | AluOp::Sra => {
-            r_word(0x13, funct3_of_alu(op), funct7_of_alu(op), rd, rs1, imm as u8)
+            r_word(
+                0x13,
+                funct3_of_alu(op),
+                funct7_of_alu(op),
+                rd,
+                rs1,
+                imm as u8,
+            )
         }
         _ => i_word(0x13, funct3_of_alu(op), rd, rs1, imm),
     }

@@ -13,11 +13,33 @@ pub(crate) fn is_encodable(instr: &Instr) -> bool
         Instr::Auipc { rd, imm } => is_register(rd) && imm < 1 << 20,
         Instr::Jal { rd, imm } => is_register(rd) && is_jump_offset(imm),
         Instr::Jalr { rd, rs1, imm } => is_register(rd) && is_register(rs1) && is_short(imm),
-        Instr::Branch { op: _, rs1, rs2, imm } => is_register(rs1) && is_register(rs2) && is_branch_offset(imm),
-        Instr::Load { op: _, rd, rs1, imm } => is_register(rd) && is_register(rs1) && is_short(imm),
-        Instr::Store { op: _, rs1, rs2, imm } => is_register(rs1) && is_register(rs2) && is_short(imm),
-        Instr::OpImm { op, rd, rs1, imm } => is_register(rd) && is_register(rs1) && fits_operation(op, imm),
-        Instr::Op { op: _, rd, rs1, rs2 } => is_register(rd) && is_register(rs1) && is_register(rs2),
+        Instr::Branch {
+            op: _,
+            rs1,
+            rs2,
+            imm,
+        } => is_register(rs1) && is_register(rs2) && is_branch_offset(imm),
+        Instr::Load {
+            op: _,
+            rd,
+            rs1,
+            imm,
+        } => is_register(rd) && is_register(rs1) && is_short(imm),
+        Instr::Store {
+            op: _,
+            rs1,
+            rs2,
+            imm,
+        } => is_register(rs1) && is_register(rs2) && is_short(imm),
+        Instr::OpImm { op, rd, rs1, imm } => is_register(rd)
+            && is_register(rs1)
+            && fits_operation(op, imm),
+        Instr::Op {
+            op: _,
+            rd,
+            rs1,
+            rs2,
+        } => is_register(rd) && is_register(rs1) && is_register(rs2),
         Instr::Cico { op: _, rs1, imm } => is_register(rs1) && is_short(imm),
         Instr::Fence | Instr::Ecall | Instr::Ebreak => true,
         Instr::Illegal => false,
@@ -37,7 +59,9 @@ fn fits_operation(op: AluOp, imm: i32) -> bool
     match op {
         AluOp::Sub => false,
         AluOp::Sll | AluOp::Srl | AluOp::Sra => is_shift_amount(imm),
-        AluOp::Add | AluOp::Slt | AluOp::Sltu | AluOp::Xor | AluOp::Or | AluOp::And => is_short(imm),
+        AluOp::Add | AluOp::Slt | AluOp::Sltu | AluOp::Xor | AluOp::Or | AluOp::And => is_short(
+            imm,
+        ),
     }
 }
 

@@ -34,7 +34,13 @@ pub(crate) fn r_word(opcode: u32, funct3: u32, funct7: u32, rd: u8, rs1: u8, rs2
     ensures rs1 { rs1_of result ≡ rs1 }
     ensures rs2 { rs2_of result ≡ rs2 }
 {
-    joined((funct7 << 5) + u32::from(rs2), rs1, funct3, u32::from(rd), opcode)
+    joined(
+        (funct7 << 5) + u32::from(rs2),
+        rs1,
+        funct3,
+        u32::from(rd),
+        opcode,
+    )
 }
 
 /// A word of the format I.
@@ -50,7 +56,13 @@ pub(crate) fn i_word(opcode: u32, funct3: u32, rd: u8, rs1: u8, imm: i32) -> u32
     ensures rs1 { rs1_of result ≡ rs1 }
     ensures imm { signed (i_immediate result) ≡ imm }
 {
-    joined(bits(imm.cast_unsigned(), 11, 0), rs1, funct3, u32::from(rd), opcode)
+    joined(
+        bits(imm.cast_unsigned(), 11, 0),
+        rs1,
+        funct3,
+        u32::from(rd),
+        opcode,
+    )
 }
 
 /// A word of the format S.
@@ -113,5 +125,9 @@ pub(crate) fn j_word(opcode: u32, rd: u8, imm: i32) -> u32
 {
     let value = imm.cast_unsigned();
     let high = (bits(value, 20, 20) << 19) + (bits(value, 10, 1) << 9);
-    u_word(opcode, rd, high + (bits(value, 11, 11) << 8) + bits(value, 19, 12))
+    u_word(
+        opcode,
+        rd,
+        high + (bits(value, 11, 11) << 8) + bits(value, 19, 12),
+    )
 }

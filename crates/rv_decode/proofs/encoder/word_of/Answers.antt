@@ -1,4 +1,4 @@
-use Rattle.std.proofs.Common.{◌≡◌, ◌∙◌, arith, refl, sym, rules, FitsSigned, w32}
+use Rattle.std.proofs.Common.{◌∙◌, refl, sym, rules, w32}
 use Rattle.std.proofs.lemmas.Int.{to_z-of_z}
 use Rattle.rv_decode.specs.declared.instr.Instr.TheVariants.{Lui, Auipc, Jal, Jalr, Branch, Load, Store, Op, Cico}
 use Rattle.rv_decode.proofs.Congruence.{same_two, same_three}
