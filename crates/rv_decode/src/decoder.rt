@@ -157,7 +157,8 @@ fn shift(word: u32) -> Instr
     requires shift { (funct3_of word ≡ 1) ⊎ (funct3_of word ≡ 5) }
     ensures { result ≡ decode_of word }
 {
-    match alu_op(bits(word, 14, 12), bits(word, 31, 25)) {
+    let funct7 = bits(word, 31, 25);
+    match alu_op(bits(word, 14, 12), funct7) {
         None => Instr::Illegal,
         Some(op) => Instr::OpImm {
             op,
