@@ -21,11 +21,9 @@ pub fn imm_s(word: u32) -> u32
 pub fn imm_b(word: u32) -> u32
     ensures { result ≡ b_immediate word }
 {
+    let high = bits(word, 31, 31) * 4096 + bits(word, 7, 7) * 2048;
     let low = bits(word, 30, 25) * 32 + bits(word, 11, 8) * 2;
-    sign_extend(
-        bits(word, 31, 31) * 4096 + bits(word, 7, 7) * 2048 + low,
-        13,
-    )
+    sign_extend(high + low, 13)
 }
 
 /// The immediate of the format U: bits 31 to 12, times 4096.
@@ -39,9 +37,7 @@ pub fn imm_u(word: u32) -> u32
 pub fn imm_j(word: u32) -> u32
     ensures { result ≡ j_immediate word }
 {
+    let high = bits(word, 31, 31) * 1_048_576 + bits(word, 19, 12) * 4096;
     let low = bits(word, 20, 20) * 2048 + bits(word, 30, 21) * 2;
-    sign_extend(
-        bits(word, 31, 31) * 1_048_576 + bits(word, 19, 12) * 4096 + low,
-        21,
-    )
+    sign_extend(high + low, 21)
 }

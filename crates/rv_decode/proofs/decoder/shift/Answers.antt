@@ -13,5 +13,5 @@ returns-in-Some c =
     let meant =
     shift_row c.in-Some.op (shift_by_code c.in-Some.op shift) c.args.word c.requires.opcode
     (sym (c.in-Some.ensures.0 ∙ c.bits.ensures.value))
-    (sym (c.in-Some.ensures.1 ∙ c.bits-2.ensures.value)) in
+    (sym (c.in-Some.ensures.1 ∙ c.bits-funct7.ensures.value)) in
     cc
