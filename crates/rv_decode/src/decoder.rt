@@ -143,11 +143,12 @@ fn constant_operation(word: u32) -> Instr
 fn constant(op: AluOp, word: u32) -> Instr
     ensures { result ≡ i_format (Instr.OpImm op) word }
 {
+    let imm = imm_i(word).cast_signed();
     Instr::OpImm {
         op,
         rd: rd(word),
         rs1: rs1(word),
-        imm: imm_i(word).cast_signed(),
+        imm,
     }
 }
 
