@@ -1,16 +1,24 @@
 -- What one event does to its node. Own, but for the instructions, which are those of the RISC-V manual.
-use Rattle.std.specs.Prelude.{ℕ, ◌+◌, ◌*◌, ◌/◌, ◌%◌, ◌^◌, ◌==◌, [], ◌∷◌, ◌++◌, List, Option, max, slice_index, slice_set, nat_le, if◌then◌else◌, Some, None}
+use Rattle.std.specs.Prelude.{ℕ, ◌+◌, ◌/◌, ◌%◌, ◌^◌, ◌==◌, [], ◌∷◌, ◌++◌, List, Option, Result, Ok, Err, slice_range, max, slice_index, nat_le, if◌then◌else◌, Some, None}
 use Rattle.std.specs.declared.cmp.Ordering.{Ordering}
 use Rattle.std.specs.Ordering.{nat_cmp, ordering_then}
 use Rattle.wt_params.specs.declared.parts.MachineParts.{MachineParts}
-use Rattle.node.specs.declared.instruction.Instruction.{Instruction}
-use Rattle.node.specs.declared.instruction.Instruction.TheVariants.{Addi, Jal, Ecall, Illegal, NotYet}
+use Rattle.rv_decode.specs.declared.instr.LoadOp.{LoadOp}
+use Rattle.rv_decode.specs.declared.instr.StoreOp.{StoreOp}
+use Rattle.rv_decode.specs.Table.{decode_of}
+use Rattle.rv_exec.specs.declared.effect.Effect.{Effect}
+use Rattle.rv_exec.specs.declared.effect.Effect.TheVariants.{Next, Load, Store, Cico, Call, Break, BadTarget, Illegal}
+use Rattle.rv_exec.specs.Meaning.{address_after, meaning_of}
+use Rattle.rv_exec.specs.Registers.{register_set}
+use Rattle.rv_exec.specs.Widths.{load_width_of, store_width_of, widened}
+use Rattle.priv_mem.specs.declared.fault.MemFault.{MemFault}
+use Rattle.priv_mem.specs.declared.fault.MemFault.TheVariants.{Misaligned, Outside}
+use Rattle.priv_mem.specs.Memory.{little_endian, load_of, store_of}
 use Rattle.node.specs.declared.key.Key.{Key}
 use Rattle.node.specs.declared.mode.Cause.{Cause}
 use Rattle.node.specs.declared.mode.Cause.TheVariants as causes
 use Rattle.node.specs.declared.mode.Mode.{Mode}
 use Rattle.node.specs.declared.mode.Mode.TheVariants.{Running, Stopped}
-use Rattle.node.specs.Instruction.{instruction_of}
 use Rattle.node.specs.NodeState.{NodeState}
 
 -- The kinds of message. Nothing is sent yet by what is built, so there is none.
@@ -34,18 +42,12 @@ key_cmp a b =
 abbrev pub step_key : MachineParts → NodeState → Key
 step_key machine node = record { time = step_time node; to = node.number; from = machine.nodes; sequence = 0 }
 
--- the number of the four bytes at an address, least byte first
-abbrev pub word_at_of : List ℕ → ℕ → ℕ
-word_at_of bytes address =
-    slice_index bytes address + 0x100 * slice_index bytes (address + 1)
-    + 0x1_0000 * slice_index bytes (address + 2) + 0x100_0000 * slice_index bytes (address + 3)
+-- the number of the four bytes at an address
+abbrev pub word_at : List ℕ → ℕ → ℕ
+word_at memory address = little_endian (slice_range memory address (address + 4))
 
 abbrev pub register : NodeState → ℕ → ℕ
 register node r = slice_index node.registers r
-
--- A write to register 0 is dropped.
-abbrev pub register_set : List ℕ → ℕ → ℕ → List ℕ
-register_set registers r value = if r == 0 then registers else slice_set registers r value
 
 abbrev pub with_register : NodeState → ℕ → ℕ → NodeState
 with_register node r value = record node { registers = register_set node.registers r value }
@@ -66,19 +68,12 @@ finished next ready node = record (one_done node) { pc = next; ready = ready }
 abbrev pub exited : ℕ → NodeState → NodeState
 exited code node = stopped (causes.Exit code) (one_done node)
 
--- A taken transfer tests its target first, and writes its register last.
-abbrev pub transferred : ℕ → ℕ → ℕ → NodeState → NodeState
-transferred target rd ready node =
-    if target % 4 == 0
-    then finished target ready (with_register node rd (node.pc + 4))
-    else stopped (causes.Target target) node
-
 -- An environment call at a time; x17 has its number, x10 and x11 its arguments and results.
 abbrev pub called : MachineParts → ℕ → NodeState → NodeState
 called machine time node =
     let call = register node 17 in
     let argument = register node 10 in
-    let next = node.pc + 4 in
+    let next = address_after node.pc in
     let ready = time + machine.costs.call in
     if call == 1 then finished next ready (record node { output = node.output ++ (argument % 0x100) ∷ [] })
     else if call == 2 then finished next ready (with_register node 10 node.number)
@@ -89,21 +84,59 @@ called machine time node =
     else if call == 93 then exited argument node
     else stopped (causes.Call call) node
 
--- what an instruction of a word does at a time
-abbrev pub executed : MachineParts → ℕ → ℕ → Instruction → NodeState → NodeState
-executed machine time word (Addi rd rs1 imm) node =
-    finished (node.pc + 4) (time + machine.costs.op) (with_register node rd ((register node rs1 + imm) % 2 ^ 32))
-executed machine time word (Jal rd imm) node =
-    transferred ((node.pc + imm) % 2 ^ 32) rd (time + machine.costs.taken) node
-executed machine time word Ecall node = called machine time node
-executed machine time word Illegal node = stopped (causes.Illegal word) node
-executed machine time word NotYet node = stopped (causes.NotYet word) node
+-- An access to memory stops the processor where its address isn't a multiple of the width, or else lies in no memory.
+abbrev pub refused_access : ℕ → MemFault → NodeState → NodeState
+refused_access address Misaligned node = stopped (causes.Misaligned address) node
+refused_access address Outside node = stopped (causes.Address address) node
+
+-- the node after an access to private memory at a time, by what the memory answered
+abbrev pub accessed : {A : Type 0} → MachineParts → ℕ → ℕ → NodeState → Result A MemFault → (A → NodeState) → NodeState
+accessed machine time address node (Ok answer) moved =
+    finished (address_after node.pc) (time + machine.costs.mem) (moved answer)
+accessed machine time address node (Err fault) moved = refused_access address fault node
+
+-- A load goes into its register, widened to a word.
+abbrev pub loaded : MachineParts → ℕ → LoadOp → ℕ → ℕ → NodeState → NodeState
+loaded machine time op rd address node =
+    accessed machine time address node (load_of node.private address (load_width_of op))
+    (λ number. with_register node rd (widened op number))
+
+-- A store writes the low bytes of its word.
+abbrev pub stored : MachineParts → ℕ → StoreOp → ℕ → ℕ → NodeState → NodeState
+stored machine time op address value node =
+    accessed machine time address node (store_of node.private address (store_width_of op) value)
+    (λ memory. record node { private = memory })
+
+-- what is left to do of an instruction at a time, by its effect; outside shared memory an annotation does nothing
+abbrev pub after_effect : MachineParts → ℕ → ℕ → Effect → NodeState → NodeState
+after_effect machine time word (Next pc cost) node = finished pc (time + cost) node
+after_effect machine time word (Load op rd address) node = loaded machine time op rd address node
+after_effect machine time word (Store op address value) node = stored machine time op address value node
+after_effect machine time word (Cico op address) node =
+    finished (address_after node.pc) (time + machine.costs.cico) node
+after_effect machine time word Call node = called machine time node
+after_effect machine time word Break node = stopped causes.Break node
+after_effect machine time word (BadTarget target) node = stopped (causes.Target target) node
+after_effect machine time word Illegal node = stopped (causes.Illegal word) node
+
+-- what the instruction of a word does at a time: first to the registers, and then by its effect
+abbrev pub executed : MachineParts → ℕ → ℕ → NodeState → NodeState
+executed machine time word node =
+    let meaning = meaning_of node.registers node.pc (decode_of word) machine.costs in
+    after_effect machine time word meaning.1 (record node { registers = meaning.0 })
 
 -- Instructions are fetched from private memory alone.
+abbrev pub fetched : MachineParts → NodeState → Option ℕ
+fetched machine node =
+    if nat_le machine.private_bytes node.pc then None else Some (word_at node.private node.pc)
+
+-- the step of a processor at a time, by what it fetches
+abbrev pub step_of : MachineParts → ℕ → NodeState → Option ℕ → NodeState
+step_of machine time node None = stopped (causes.Fetch node.pc) node
+step_of machine time node (Some word) = executed machine time word node
+
 abbrev pub stepped : MachineParts → ℕ → NodeState → NodeState
-stepped machine time node =
-    if nat_le machine.private_bytes node.pc then stopped (causes.Fetch node.pc) node
-    else (let word = word_at_of node.private node.pc in executed machine time word (instruction_of word) node)
+stepped machine time node = step_of machine time node (fetched machine node)
 
 -- one more step is handled, the last one so far
 abbrev pub counted_step : MachineParts → NodeState → NodeState

@@ -1,4 +1,3 @@
-pub mod Instruction
 pub mod NodeState
 pub mod Event
 pub mod Inside

@@ -1,7 +1,9 @@
 -- What a node is at a moment. Own.
-use Rattle.std.specs.Prelude.{◌≡◌, ℕ, ◌+◌, ◌-◌, ◌%◌, ◌^◌, ◌<◌, ◌≤◌, ◌==◌, [], ◌++◌, Bool, List, length, replicate, slice_set, Option, None}
+use Rattle.std.specs.Prelude.{◌≡◌, ℕ, ◌+◌, ◌%◌, ◌^◌, ◌<◌, ◌≤◌, ◌==◌, [], Bool, List, length, replicate, slice_set, Option, None}
 use Rattle.wt_params.specs.declared.parts.MachineParts.{MachineParts}
 use Rattle.wt_params.specs.Machine.{IsMachine}
+use Rattle.priv_mem.specs.Memory.{overwritten}
+use Rattle.rv_exec.specs.Registers.{AreRegisters}
 use Rattle.node.specs.declared.counters.Counters.{Counters}
 use Rattle.node.specs.declared.key.Key.{Key}
 use Rattle.node.specs.declared.mode.Mode.{Mode}
@@ -41,7 +43,7 @@ is_spent machine node = events_of node == machine.event_limit
 -- what every event keeps
 pub record IsNode (machine : MachineParts) (node : NodeState) : Type 0 where
   pub numbers : IsMachine machine
-  pub registers : length node.registers ≡ 32
+  pub registers : AreRegisters node.registers
   pub aligned : node.pc % 4 ≡ 0
   pub private : length node.private ≡ machine.private_bytes
   pub ready : node.ready < 2 ^ 41
@@ -72,9 +74,15 @@ no_counts = record {
   sent = 0;
 }
 
--- bytes from address 0 on, and zeros after them up to the size
+-- zeros, but for these bytes from address 0 on
 abbrev pub filled_to : ℕ → List ℕ → List ℕ
-filled_to size bytes = bytes ++ replicate (size - length bytes) 0
+filled_to size bytes = overwritten (replicate size 0) 0 bytes
+
+-- the node's number and its counts of events stay
+pub record KeepsEvents (old new : NodeState) : Type 0 where
+  pub number : new.number ≡ old.number
+  pub steps : new.counters.steps ≡ old.counters.steps
+  pub messages : new.counters.messages ≡ old.counters.messages
 
 -- node 0 at the start, with these bytes from address 0 on
 abbrev pub start_node : MachineParts → List ℕ → NodeState

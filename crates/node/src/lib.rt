@@ -4,7 +4,6 @@
 #![tactic(auto)]
 
 mod counters;
-mod instruction;
 mod key;
 mod mode;
 mod node;

@@ -17,8 +17,6 @@ pub enum Cause {
     Call { number: u32 },
     /// A breakpoint.
     Break,
-    /// A word that isn't executed yet.
-    NotYet { word: u32 },
 }
 
 /// What a processor does.

@@ -1,29 +1,29 @@
 ghost use Rattle.std.specs.Prelude.{◌≡◌, ℕ, ◌+◌, ◌%◌, ◌^◌, ◌<◌, ◌≤◌, ◌∷◌, ◌++◌, [], length, true, false, IsTrue, IsErr, IfOk, OnOk, OnErr};
-ghost use Rattle.node.specs.Instruction.{instruction_of};
-ghost use Rattle.node.specs.NodeState.{IsNode, events_of, is_spent, start_node, filled_to};
-ghost use Rattle.node.specs.Event.{Step, react, step_time, next_step_of, stepped, called, executed, transferred, finished, stopped, exited, with_register, word_at_of, counted_step};
+ghost use Rattle.rv_exec.specs.Meaning.{address_after};
+ghost use Rattle.node.specs.NodeState.{IsNode, KeepsEvents, events_of, is_spent, start_node, filled_to};
+ghost use Rattle.node.specs.Event.{Step, react, step_time, next_step_of, counted_step, stepped, fetched, executed, after_effect, loaded, stored, called, refused_access, finished, stopped, exited};
 
 use crate::counters::Counters;
-use crate::instruction::{Instruction, decode};
 use crate::key::Key;
 use crate::mode::{Cause, Mode};
+use priv_mem::{MemFault, PrivMem};
+use rv_decode::{LoadOp, StoreOp, decode};
+use rv_exec::{Effect, Regs, execute, load_width, store_width, widen};
 use std::alloc::Global;
 use std::marker::Model;
 use wt_params::{Machine, NoMemory};
-
-const REGISTERS: usize = 32;
 
 /// One node: a processor with its registers and its private memory.
 #[derive(Drop)]
 pub struct Node {
     machine: Machine,
     number: u32,
-    registers: [u32; REGISTERS],
+    registers: Regs,
     pc: u32,
     mode: Mode,
     ready: u64,
     busy: u64,
-    private: Vec<u8>,
+    private: PrivMem,
     counters: Counters,
     output: Vec<u8>,
     last: Option<Key>,
@@ -53,11 +53,11 @@ impl Node {
         }) }
     {
         let parts = machine.parts();
-        let private = filled(alloc, bytes, parts.private_bytes as usize)?;
-        let mut registers = [0; REGISTERS];
-        registers[2] = parts.private_bytes as u32;
-        registers[10] = 0;
-        registers[11] = parts.nodes as u32;
+        let private = filled(alloc, bytes, parts.private_bytes as u32)?;
+        let mut registers = Regs::new();
+        registers.set(2, parts.private_bytes as u32);
+        registers.set(10, 0);
+        registers.set(11, parts.nodes as u32);
         Ok(Node {
             machine: *machine,
             number: 0,
@@ -86,6 +86,13 @@ impl Node {
         ensures { result ≡ self.now.state.pc }
     {
         self.pc
+    }
+
+    /// The registers.
+    pub fn regs(&self) -> &Regs
+        ensures { result.now ≡ self.now.state.registers }
+    {
+        &self.registers
     }
 
     /// When the last instruction was through, in target cycles.
@@ -185,71 +192,116 @@ impl Node {
         requires room { self.old.state.counters.done < self.old.state.counters.steps }
         requires whole { self.old.broken ≡ false }
         ensures ok { OnOk result (self.new ≡ record self.old { state = stepped self.old.machine time self.old.state }) }
+        ensures kept { OnOk result (KeepsEvents self.old.state self.new.state) }
         ensures broken { OnErr result (IsTrue self.new.broken) }
         ensures machine { self.new.machine ≡ self.old.machine }
     {
-        if self.pc as u64 >= self.machine.private_bytes() {
-            self.stop(Cause::Fetch { address: self.pc });
-            return Ok(());
+        match self.fetch() {
+            Some(word) => self.execute(time, word),
+            None => {
+                let address = self.pc;
+                self.stop(Cause::Fetch { address });
+                Ok(())
+            }
         }
-        let word = word_at(&self.private, self.pc as usize);
-        self.execute(time, word)
+    }
+
+    /// The word at the pc. None exactly where the pc lies outside private memory.
+    fn fetch(&self) -> Option<u32>
+        ensures { result ≡ fetched self.now.machine self.now.state }
+    {
+        self.private.load(self.pc, 4).ok()
     }
 
     /// Does the instruction of a word.
     fn execute(&mut self, time: u64, word: u32) -> Result<(), NoMemory>
         requires time { time < self.old.machine.budget }
         requires room { self.old.state.counters.done < self.old.state.counters.steps }
-        requires inside { self.old.state.pc < self.old.machine.private_bytes }
         requires whole { self.old.broken ≡ false }
-        ensures ok { OnOk result (self.new ≡ record self.old {
-          state = executed self.old.machine time word (instruction_of word) self.old.state;
-        }) }
+        ensures ok { OnOk result (self.new ≡ record self.old { state = executed self.old.machine time word self.old.state }) }
+        ensures kept { OnOk result (KeepsEvents self.old.state self.new.state) }
         ensures broken { OnErr result (IsTrue self.new.broken) }
         ensures machine { self.new.machine ≡ self.old.machine }
     {
         let costs = self.machine.costs();
-        match decode(word) {
-            Instruction::Addi { rd, rs1, imm } => {
-                let sum = self.registers[rs1 as usize].wrapping_add(imm);
-                let next = self.pc + 4;
-                self.write_register(rd, sum);
-                self.finish(next, time + costs.op);
-            }
-            Instruction::Jal { rd, imm } => {
-                let target = self.pc.wrapping_add(imm);
-                self.transfer(rd, target, time + costs.taken);
-            }
-            Instruction::Ecall => return self.call(time),
-            Instruction::Illegal => self.stop(Cause::Illegal { word }),
-            Instruction::NotYet => self.stop(Cause::NotYet { word }),
+        let pc = self.pc;
+        match execute(&mut self.registers, pc, &decode(word), &costs) {
+            Effect::Next { pc, cost } => self.finish(pc, time + cost),
+            Effect::Load { op, rd, address } => self.load(time, op, rd, address),
+            Effect::Store { op, address, value } => self.store(time, op, address, value),
+            Effect::Cico { op: _, address: _ } => self.go_on(time + costs.cico),
+            Effect::Call => return self.call(time),
+            Effect::Break => self.stop(Cause::Break),
+            Effect::BadTarget { target } => self.stop(Cause::Target { address: target }),
+            Effect::Illegal => self.stop(Cause::Illegal { word }),
         }
         Ok(())
+    }
+
+    /// Loads from memory into a register.
+    fn load(&mut self, time: u64, op: LoadOp, rd: u8, address: u32)
+        requires time { time < self.old.machine.budget }
+        requires room { self.old.state.counters.done < self.old.state.counters.steps }
+        requires register { rd < 32 }
+        ensures loaded { self.new ≡ record self.old { state = loaded self.old.machine time op rd address self.old.state } }
+        ensures kept { KeepsEvents self.old.state self.new.state }
+    {
+        match self.private.load(address, load_width(op)) {
+            Ok(number) => {
+                self.registers.set(rd, widen(op, number));
+                let ready = time + self.machine.costs().mem;
+                self.go_on(ready);
+            }
+            Err(fault) => self.refuse_access(address, fault),
+        }
+    }
+
+    /// Stores to memory.
+    fn store(&mut self, time: u64, op: StoreOp, address: u32, value: u32)
+        requires time { time < self.old.machine.budget }
+        requires room { self.old.state.counters.done < self.old.state.counters.steps }
+        ensures stored { self.new ≡ record self.old { state = stored self.old.machine time op address value self.old.state } }
+        ensures kept { KeepsEvents self.old.state self.new.state }
+    {
+        match self.private.store(address, store_width(op), value) {
+            Ok(()) => {
+                let ready = time + self.machine.costs().mem;
+                self.go_on(ready);
+            }
+            Err(fault) => self.refuse_access(address, fault),
+        }
+    }
+
+    /// Stops the processor at an access that memory refused.
+    fn refuse_access(&mut self, address: u32, fault: MemFault)
+        ensures refused { self.new ≡ record self.old { state = refused_access address fault self.old.state } }
+        ensures kept { KeepsEvents self.old.state self.new.state }
+    {
+        match fault {
+            MemFault::Misaligned => self.stop(Cause::Misaligned { address }),
+            MemFault::Outside => self.stop(Cause::Address { address }),
+        }
     }
 
     /// Does an environment call.
     fn call(&mut self, time: u64) -> Result<(), NoMemory>
         requires time { time < self.old.machine.budget }
         requires room { self.old.state.counters.done < self.old.state.counters.steps }
-        requires inside { self.old.state.pc < self.old.machine.private_bytes }
         requires whole { self.old.broken ≡ false }
         ensures ok { OnOk result (self.new ≡ record self.old { state = called self.old.machine time self.old.state }) }
+        ensures kept { OnOk result (KeepsEvents self.old.state self.new.state) }
         ensures broken { OnErr result (IsTrue self.new.broken) }
         ensures machine { self.new.machine ≡ self.old.machine }
     {
-        let call = self.registers[17];
-        let argument = self.registers[10];
-        let number = self.number;
-        let nodes = self.machine.nodes() as u32;
-        let next = self.pc + 4;
-        let ready = time + self.machine.costs().call;
+        let call = self.registers.get(17);
+        let argument = self.registers.get(10);
         match call {
             1 => self.put_byte((argument % 0x100) as u8)?,
-            2 => self.write_register(10, number),
-            3 => self.write_register(10, nodes),
+            2 => self.registers.set(10, self.number),
+            3 => self.registers.set(10, self.machine.nodes() as u32),
             4 => {
-                self.write_register(10, (time % 0x1_0000_0000) as u32);
-                self.write_register(11, (time / 0x1_0000_0000) as u32);
+                self.registers.set(10, (time % 0x1_0000_0000) as u32);
+                self.registers.set(11, (time / 0x1_0000_0000) as u32);
             }
             5 => {}
             93 => {
@@ -261,7 +313,8 @@ impl Node {
                 return Ok(());
             }
         }
-        self.finish(next, ready);
+        let ready = time + self.machine.costs().call;
+        self.go_on(ready);
         Ok(())
     }
 
@@ -282,20 +335,15 @@ impl Node {
         Ok(())
     }
 
-    /// Goes to a target, with the address after this instruction in a register.
-    fn transfer(&mut self, rd: u8, target: u32, ready: u64)
-        requires rd { rd < 32 }
+    /// Goes on to the instruction after this one, one more being done.
+    fn go_on(&mut self, ready: u64)
         requires ready { ready < 2 ^ 41 }
         requires room { self.old.state.counters.done < self.old.state.counters.steps }
-        requires inside { self.old.state.pc < self.old.machine.private_bytes }
-        ensures { self.new ≡ record self.old { state = transferred target rd ready self.old.state } }
+        ensures finished { self.new ≡ record self.old { state = finished (address_after self.old.state.pc) ready self.old.state } }
+        ensures kept { KeepsEvents self.old.state self.new.state }
     {
-        if target % 4 == 0 {
-            self.write_register(rd, self.pc + 4);
-            self.finish(target, ready);
-        } else {
-            self.stop(Cause::Target { address: target });
-        }
+        let next = self.pc.wrapping_add(4);
+        self.finish(next, ready);
     }
 
     /// Goes on to the next instruction, one more being done.
@@ -303,7 +351,8 @@ impl Node {
         requires aligned { next % 4 ≡ 0 }
         requires ready { ready < 2 ^ 41 }
         requires room { self.old.state.counters.done < self.old.state.counters.steps }
-        ensures { self.new ≡ record self.old { state = finished next ready self.old.state } }
+        ensures finished { self.new ≡ record self.old { state = finished next ready self.old.state } }
+        ensures kept { KeepsEvents self.old.state self.new.state }
     {
         self.counters.done += 1;
         self.pc = next;
@@ -313,7 +362,8 @@ impl Node {
     /// Ends the program. An exit is done as any instruction that finishes.
     fn exit(&mut self, code: u32)
         requires { self.old.state.counters.done < self.old.state.counters.steps }
-        ensures { self.new ≡ record self.old { state = exited code self.old.state } }
+        ensures exited { self.new ≡ record self.old { state = exited code self.old.state } }
+        ensures kept { KeepsEvents self.old.state self.new.state }
     {
         self.counters.done += 1;
         self.mode = Mode::Stopped {
@@ -323,39 +373,19 @@ impl Node {
 
     /// Stops the processor where it is.
     fn stop(&mut self, cause: Cause)
-        ensures { self.new ≡ record self.old { state = stopped cause self.old.state } }
+        ensures stopped { self.new ≡ record self.old { state = stopped cause self.old.state } }
+        ensures kept { KeepsEvents self.old.state self.new.state }
     {
         self.mode = Mode::Stopped { cause };
     }
-
-    /// Writes a register. A write to x0 is dropped.
-    fn write_register(&mut self, rd: u8, value: u32)
-        requires { rd < 32 }
-        ensures { self.new ≡ record self.old { state = with_register self.old.state rd value } }
-    {
-        if rd != 0 {
-            self.registers[rd as usize] = value;
-        }
-    }
 }
 
-/// The bytes, and zeros after them up to a size.
-fn filled(alloc: Global, bytes: &[u8], size: usize) -> Result<Vec<u8>, NoMemory>
+/// A memory of a size with these bytes from address 0 on, and zeros after them.
+fn filled(alloc: Global, bytes: &[u8], size: u32) -> Result<PrivMem, NoMemory>
     requires { length bytes.now ≤ size }
-    ensures { IfOk result (λ memory. memory.items ≡ filled_to size bytes.now) }
+    ensures { IfOk result (λ memory. memory ≡ filled_to size bytes.now) }
 {
-    let mut memory = Vec::with_capacity(alloc, size)?;
-    memory.extend_from_slice(bytes)?;
-    memory.resize(size, 0)?;
+    let mut memory = PrivMem::new(alloc, size)?;
+    memory.fill(0, bytes).unwrap();
     Ok(memory)
-}
-
-/// The number of the four bytes at an address, least byte first.
-fn word_at(memory: &[u8], address: usize) -> u32
-    requires { address + 4 ≤ length memory.now }
-    ensures { result ≡ word_at_of memory.now address }
-{
-    let low = memory[address] as u32 + memory[address + 1] as u32 * 0x100;
-    let high = memory[address + 2] as u32 + memory[address + 3] as u32 * 0x100;
-    low + high * 0x1_0000
 }

@@ -4,7 +4,7 @@ use Rattle.wt_params.specs.declared.parts.MachineParts.{MachineParts}
 use Rattle.wt_params.specs.Machine.{block_address}
 use Rattle.node.specs.declared.counters.Counters.{Counters}
 use Rattle.node.specs.declared.mode.Cause.{Cause}
-use Rattle.node.specs.declared.mode.Cause.TheVariants.{Exit, Illegal, Fetch, Target, Address, Misaligned, Call, Break, NotYet}
+use Rattle.node.specs.declared.mode.Cause.TheVariants.{Exit, Illegal, Fetch, Target, Address, Misaligned, Call, Break}
 use Rattle.node.specs.declared.mode.Mode.{Mode}
 use Rattle.node.specs.declared.mode.Mode.TheVariants.{Running, Waiting, InBarrier, Stopped}
 use Rattle.node.specs.NodeState.{NodeState}
@@ -30,7 +30,6 @@ cause_text (Address address) = codes "address " ++ hex address
 cause_text (Misaligned address) = codes "misaligned " ++ hex address
 cause_text (Call number) = codes "call " ++ decimal number
 cause_text Break = codes "break"
-cause_text (NotYet word) = codes "not_yet " ++ hex word
 
 -- what a processor does; a processor that waits for a block shows the block's address
 abbrev pub state_text : MachineParts → Mode → List ℕ

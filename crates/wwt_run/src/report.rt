@@ -113,7 +113,6 @@ fn stop(line: &mut Line, cause: Cause) -> Result<(), NoMemory>
         Cause::Misaligned { address } => line.entry_hex(b"misaligned ", address as u64),
         Cause::Call { number } => line.entry(b"call ", number as u128),
         Cause::Break => line.text(b"break"),
-        Cause::NotYet { word } => line.entry_hex(b"not_yet ", word as u64),
     }
 }
 

@@ -41,7 +41,7 @@ fn starts(rt: &impl Abort, ran: &Ran, status: Status, first_lines: &[u8]) {
 fn runs_print_their_reports(rt: HostRuntime) -> Result<(), Fail> {
     let alloc = rt.alloc();
     // The input, the status, and how the report begins.
-    let rows: [(&[u8], Status, &[u8]); 4] = [
+    let rows: [(&[u8], Status, &[u8]); 5] = [
         (
             PRINT_A,
             Status::Done,
@@ -55,7 +55,12 @@ fn runs_print_their_reports(rt: HostRuntime) -> Result<(), Fail> {
         (
             b"\x33\x85\xa5\x00",
             Status::NodeFault,
-            b"outcome finished\nevents 1\ntime 0\nquanta 1\nnode 0 not_yet 0x00a58533 pc 0x00000000 clock 0\n",
+            b"outcome finished\nevents 2\ntime 1\nquanta 2\nnode 0 illegal 0x00000000 pc 0x00000004 clock 1\n",
+        ),
+        (
+            b"\x73\x00\x10\x00",
+            Status::NodeFault,
+            b"outcome finished\nevents 1\ntime 0\nquanta 1\nnode 0 break pc 0x00000000 clock 0\n",
         ),
         (
             b"\x6f\x00\x00\x00",
