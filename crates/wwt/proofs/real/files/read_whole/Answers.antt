@@ -1,4 +1,4 @@
-use Rattle.std.proofs.Common.{◌+◌, ◌≤◌, length, arith, rules}
+use Rattle.std.proofs.Common.{◌+◌, ◌≤◌, length, rules}
 use Rattle.wwt.proofs.Taken.{takes_more}
 use Rattle.wwt.proofs.real.files.read_whole.Goals as goal
 
