@@ -22,7 +22,7 @@ pub struct FileStore<R: Drop> {
 impl<R: Files + Input + AllocGlobal + Clone + Drop> FileStore<R> {
     /// The files that this runtime reaches.
     pub fn new(rt: R) -> FileStore<R>
-        ensures { result ≡ record { rt = rt; faults = 0 } }
+        ensures { ⟦<FileStore<R> as Store>⟧.faults result ≡ 0 }
     {
         FileStore { rt, faults: 0 }
     }

@@ -22,7 +22,7 @@ pub struct ErrSink<W: Drop> {
 impl<W: Write + Drop> OutSink<W> {
     /// A sink over this writer.
     pub fn new(writer: W) -> OutSink<W>
-        ensures { result ≡ record { writer = writer; faults = 0 } }
+        ensures { ⟦<OutSink<W> as Sink>⟧.faults result ≡ 0 }
     {
         OutSink { writer, faults: 0 }
     }
@@ -31,7 +31,7 @@ impl<W: Write + Drop> OutSink<W> {
 impl<W: Write + Drop> ErrSink<W> {
     /// A sink over this writer.
     pub fn new(writer: W) -> ErrSink<W>
-        ensures { result ≡ record { writer = writer; faults = 0 } }
+        ensures { ⟦<ErrSink<W> as Sink>⟧.faults result ≡ 0 }
     {
         ErrSink { writer, faults: 0 }
     }
