@@ -12,3 +12,6 @@ pub use self::node::Node;
 pub use counters::Counters;
 pub use key::Key;
 pub use mode::{Cause, Mode};
+
+#[cfg(test)]
+mod tests;
