@@ -1,7 +1,8 @@
 ghost use Rattle.std.specs.Prelude.{◌≡◌, ◌<◌, ◌%◌, ◌⊎◌, ◌==◌, if◌then◌else◌, slice_index};
 ghost use Rattle.rv_decode.specs.Fields.{IsWellFormed};
-ghost use Rattle.rv_exec.specs.Registers.{AreRegisters, register_set};
-ghost use Rattle.rv_exec.specs.Meaning.{meaning_of, finished, transferred, word_sum, word_of, IfNext, ChangesWithNext};
+ghost use Rattle.rv_exec.specs.Registers.{AreRegisters};
+ghost use Rattle.rv_exec.specs.Meaning.{meaning_of, finished, jumped, offset_from, address_after};
+ghost use Rattle.rv_exec.specs.Meaning.{IfNext, ChangeOnlyWithNext, NamesRegister};
 
 use crate::effect::Effect;
 use crate::registers::Regs;
@@ -15,18 +16,19 @@ use wt_params::CostParts;
 pub fn execute(regs: &mut Regs, pc: u32, instr: &Instr, costs: &CostParts) -> Effect
     requires { IsWellFormed instr.now }
     ensures meaning { (regs.new, result) ≡ meaning_of regs.old pc instr.now costs.now }
-    ensures kept { ChangesWithNext regs.old regs.new result }
+    ensures kept { ChangeOnlyWithNext regs.old regs.new result }
     ensures registers { AreRegisters regs.old → AreRegisters regs.new }
+    ensures destination { NamesRegister result }
     ensures aligned { pc % 4 ≡ 0 → IfNext result (λ next cost. next % 4 ≡ 0) }
     ensures cost { IfNext result (λ next cost. (cost ≡ costs.now.op) ⊎ (cost ≡ costs.now.taken)) }
 {
     match *instr {
         Instr::Lui { rd, imm } => finish(regs, rd, imm * 4096, pc, costs),
         Instr::Auipc { rd, imm } => finish(regs, rd, pc.wrapping_add(imm * 4096), pc, costs),
-        Instr::Jal { rd, imm } => jump(regs, rd, pc, pc.wrapping_add_signed(imm), costs),
+        Instr::Jal { rd, imm } => jump(regs, rd, pc.wrapping_add_signed(imm), pc, costs),
         Instr::Jalr { rd, rs1, imm } => {
             let target = address_of(regs, rs1, imm);
-            jump(regs, rd, pc, target - target % 2, costs)
+            jump(regs, rd, target - target % 2, pc, costs)
         }
         Instr::Branch { op, rs1, rs2, imm } => {
             if branch_taken(op, regs.get(rs1), regs.get(rs2)) {
@@ -69,7 +71,7 @@ pub fn execute(regs: &mut Regs, pc: u32, instr: &Instr, costs: &CostParts) -> Ef
 /// A base register plus an offset.
 fn address_of(regs: &Regs, base: u8, offset: i32) -> u32
     requires { base < 32 }
-    ensures { result ≡ word_sum (slice_index regs.now base) (word_of offset) }
+    ensures { result ≡ offset_from (slice_index regs.now base) offset }
 {
     regs.get(base).wrapping_add_signed(offset)
 }
@@ -85,9 +87,9 @@ fn finish(regs: &mut Regs, rd: u8, value: u32, pc: u32, costs: &CostParts) -> Ef
 }
 
 /// Goes to the target with the address of the next instruction in `rd`. A bad target writes nothing.
-fn jump(regs: &mut Regs, rd: u8, pc: u32, target: u32, costs: &CostParts) -> Effect
+fn jump(regs: &mut Regs, rd: u8, target: u32, pc: u32, costs: &CostParts) -> Effect
     requires { rd < 32 }
-    ensures meaning { (regs.new, result) ≡ transferred regs.old (register_set regs.old rd (word_sum pc 4)) target costs.now }
+    ensures meaning { (regs.new, result) ≡ jumped regs.old rd target pc costs.now }
     ensures registers { AreRegisters regs.old → AreRegisters regs.new }
 {
     if target % 4 != 0 {
@@ -116,7 +118,7 @@ fn transfer(target: u32, costs: &CostParts) -> Effect
 
 /// What follows where control goes to the next instruction.
 fn go_on(pc: u32, costs: &CostParts) -> Effect
-    ensures { result ≡ Effect.Next (word_sum pc 4) costs.now.op }
+    ensures { result ≡ Effect.Next (address_after pc) costs.now.op }
 {
     Effect::Next {
         pc: pc.wrapping_add(4),

@@ -1,4 +1,4 @@
-ghost use Rattle.std.specs.Prelude.{◌≡◌};
+ghost use Rattle.std.specs.Prelude.{◌≡◌, ◌⊎◌};
 ghost use Rattle.rv_exec.specs.Widths.{load_width_of, store_width_of, widened};
 
 use rv_decode::{LoadOp, StoreOp};
@@ -6,7 +6,8 @@ use rv_word::sign_extend;
 
 /// How many bytes a load reads: 1, 2 or 4.
 pub fn load_width(op: LoadOp) -> u32
-    ensures { result ≡ load_width_of op }
+    ensures value { result ≡ load_width_of op }
+    ensures range { (result ≡ 1) ⊎ ((result ≡ 2) ⊎ (result ≡ 4)) }
 {
     match op {
         LoadOp::Lb | LoadOp::Lbu => 1,
@@ -17,7 +18,8 @@ pub fn load_width(op: LoadOp) -> u32
 
 /// How many bytes a store writes: 1, 2 or 4.
 pub fn store_width(op: StoreOp) -> u32
-    ensures { result ≡ store_width_of op }
+    ensures value { result ≡ store_width_of op }
+    ensures range { (result ≡ 1) ⊎ ((result ≡ 2) ⊎ (result ≡ 4)) }
 {
     match op {
         StoreOp::Sb => 1,
