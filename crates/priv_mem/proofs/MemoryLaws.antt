@@ -5,8 +5,8 @@ use Rattle.std.specs.Prelude.{slice_range, suc, zero}
 use Rattle.priv_mem.specs.Memory.{IsWidth, little_endian, low_bytes, overwritten, load_of, store_of}
 
 -- a multiple of a width below whole pages lies in them with all its bytes
-pub multiple_in_pages : (size address width : ℕ) → IsWidth width → size % 4096 ≡ 0 → address % width ≡ 0 → address < size →
-    address + width ≤ size
+pub multiple_in_pages : (size address width : ℕ) → IsWidth width → size % 4096 ≡ 0 → address % width ≡ 0 →
+    address < size → address + width ≤ size
 multiple_in_pages size address width (inl one) pages aligned inside = omega arith
 multiple_in_pages size address width (inr (inl two)) pages aligned inside =
     let even : address % 2 ≡ 0 = rw two at aligned in omega arith
