@@ -1,5 +1,6 @@
 use super::*;
 use std::alloc::Global;
+use std::process::Abort;
 use std::test::Fail;
 use wt_params::{Machine, NoMemory};
 
@@ -33,6 +34,13 @@ fn run(alloc: Global, words: &[u32]) -> Result<Node, NoMemory> {
         }
     }
     Ok(node)
+}
+
+fn hold(rt: &impl Abort, node: &Node, registers: &[(u8, u32)], name: &str) {
+    for (register, value) in registers {
+        assert!(rt; *register < 32);
+        assert_eq!(rt; node.regs().get(*register), *value, "{name}");
+    }
 }
 
 #[test]
@@ -189,10 +197,7 @@ fn programs_of_a_few_words(rt: HostRuntime) -> Result<(), Fail> {
         assert_eq!(rt; *node.mode(), Mode::Stopped { cause: row.cause }, "{name}");
         assert_eq!(rt; node.ready().max(node.busy()), row.clock, "{name}");
         assert_eq!(rt; node.output(), row.output, "{name}");
-        for (register, value) in row.registers {
-            assert!(rt; *register < 32);
-            assert_eq!(rt; node.regs().get(*register), *value, "{name}");
-        }
+        hold(&rt, &node, row.registers, name);
     }
     Ok(())
 }
