@@ -1,0 +1,111 @@
+/*
+ * The environment calls of wwt, each as a function. A call is the instruction ecall with its number in a7, its argument
+ * in a0 and its answer in a0, or in a0 and a1. No call changes memory or any other register.
+ *
+ * Compiled for another processor than RISC-V, or with -DHOST, the same functions are those of a machine with one node,
+ * and put their bytes out by putchar, so that what a program prints here and there can be compared. The host's clock
+ * stands still.
+ */
+#ifndef WWT_H
+#define WWT_H
+
+#include <stdint.h>
+
+#if defined __riscv && !defined HOST
+
+enum wwt_call {
+    WWT_PUT_BYTE = 1,
+    WWT_NODE = 2,
+    WWT_NODES = 3,
+    WWT_CLOCK = 4,
+    WWT_BARRIER = 5,
+    WWT_EXIT = 93
+};
+
+/* Does the call of this number, and returns what a0 holds after it. */
+static inline uint32_t wwt_do(uint32_t call, uint32_t argument)
+{
+    register uint32_t a0 __asm__("a0") = argument;
+    register uint32_t a7 __asm__("a7") = call;
+    __asm__ volatile("ecall" : "+r"(a0) : "r"(a7) : "memory");
+    return a0;
+}
+
+/* Puts a byte out. */
+static inline void wwt_put_byte(uint8_t byte)
+{
+    wwt_do(WWT_PUT_BYTE, byte);
+}
+
+/* The number of the node that the program runs on, counted from 0. */
+static inline uint32_t wwt_node(void)
+{
+    return wwt_do(WWT_NODE, 0);
+}
+
+/* How many nodes the machine has. */
+static inline uint32_t wwt_nodes(void)
+{
+    return wwt_do(WWT_NODES, 0);
+}
+
+/* The node's time, in cycles of the simulated machine. */
+static inline uint64_t wwt_clock(void)
+{
+    register uint32_t a0 __asm__("a0");
+    register uint32_t a1 __asm__("a1");
+    register uint32_t a7 __asm__("a7") = WWT_CLOCK;
+    __asm__ volatile("ecall" : "=r"(a0), "=r"(a1) : "r"(a7) : "memory");
+    return (uint64_t)a1 << 32 | a0;
+}
+
+/* Waits until every node has come to the barrier. */
+static inline void wwt_barrier(void)
+{
+    wwt_do(WWT_BARRIER, 0);
+}
+
+/* Ends the program on this node by a code. 0 says that all is well. */
+__attribute__((noreturn)) static inline void wwt_exit(uint32_t code)
+{
+    wwt_do(WWT_EXIT, code);
+    __builtin_unreachable();
+}
+
+#else
+
+#include <stdio.h>
+#include <stdlib.h>
+
+static inline void wwt_put_byte(uint8_t byte)
+{
+    putchar(byte);
+}
+
+static inline uint32_t wwt_node(void)
+{
+    return 0;
+}
+
+static inline uint32_t wwt_nodes(void)
+{
+    return 1;
+}
+
+static inline uint64_t wwt_clock(void)
+{
+    return 0;
+}
+
+static inline void wwt_barrier(void)
+{
+}
+
+__attribute__((noreturn)) static inline void wwt_exit(uint32_t code)
+{
+    exit((int)code);
+}
+
+#endif
+
+#endif
