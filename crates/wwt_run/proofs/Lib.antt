@@ -4,3 +4,4 @@ pub mod Appends
 pub mod FlatLemmas
 pub mod LineLemmas
 pub mod AnswerLemmas
+pub mod Computed

@@ -7,3 +7,4 @@ pub mod Report
 pub mod Status
 pub mod Case
 pub mod Answer
+pub mod Examples

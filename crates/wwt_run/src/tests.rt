@@ -1,3 +1,11 @@
+ghost use Rattle.std.specs.Prelude.{◌≡◌, []};
+ghost use Rattle.wt_params.specs.Machine.{flat_machine};
+ghost use Rattle.wwt_run.specs.Alone.{world_of};
+ghost use Rattle.wwt_run.specs.Case.{output_of_run, status_of_run};
+ghost use Rattle.wwt_run.specs.Examples.{print_a, print_a_report, empty_report, endless_jump, after_steps};
+ghost use Rattle.wwt_run.specs.Serial.{serial};
+ghost use Rattle.wwt_run.specs.World.{start_flat};
+
 use super::*;
 use std::alloc::Global;
 use std::process::Abort;
@@ -37,8 +45,20 @@ fn starts(rt: &impl Abort, ran: &Ran, status: Status, first_lines: &[u8]) {
     assert_eq!(rt; ran.err.bytes(), b"".as_slice());
 }
 
+/// The definitions of the serial run and of the report, computed on worked programs, give their reports.
+fn definitions_give_the_worked_reports()
+    ensures print_a { output_of_run print_a ≡ print_a_report }
+    ensures print_a_status { status_of_run print_a ≡ Status.Done }
+    ensures empty { output_of_run [] ≡ empty_report }
+    ensures empty_status { status_of_run [] ≡ Status.NodeFault }
+    ensures jump { serial flat_machine 3 (start_flat flat_machine endless_jump) ≡ world_of (after_steps endless_jump 3) 3 3 }
+    ensures jump_place { (after_steps endless_jump 3).pc ≡ 0 }
+    ensures jump_time { (after_steps endless_jump 3).ready ≡ 3 }
+{}
+
 #[test]
 fn runs_print_their_reports(rt: HostRuntime) -> Result<(), Fail> {
+    definitions_give_the_worked_reports();
     let alloc = rt.alloc();
     // The input, the status, and how the report begins.
     let rows: [(&[u8], Status, &[u8]); 5] = [
