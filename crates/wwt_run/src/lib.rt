@@ -12,9 +12,7 @@ mod status;
 mod top;
 mod totals;
 
-pub use head::{Head, Outcome};
 pub use refusal::{ImageRefusal, Refusal};
-pub use simulate::run_alone;
 pub use status::Status;
 pub use top::wwt_plain;
 
