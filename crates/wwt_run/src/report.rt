@@ -1,4 +1,5 @@
 ghost use Rattle.std.specs.Prelude.{◌≡◌, ◌<◌, [], ◌∷◌, ◌++◌, length, codes, decimal, IfOk, OnOk};
+ghost use Rattle.node.specs.Event.{step_time};
 ghost use Rattle.wwt_run.specs.Text.{line_end};
 ghost use Rattle.wwt_run.specs.Report.{outcome_text_of, cause_text, state_text, processor_text, counts_text, event_counts_of, cache_counts_of, message_counts_of, output_text, node_line_of, count_line_of, out_line_of, total_line_of, report_lines};
 
@@ -81,7 +82,14 @@ fn processor(line: &mut Line, machine: &Machine, node: &Node) -> Result<(), NoMe
 {
     state(line, machine, node.mode())?;
     line.entry_hex(b" pc ", node.pc() as u64)?;
-    line.entry(b" clock ", node.ready().max(node.busy()) as u128)
+    line.entry(b" clock ", clock(node) as u128)
+}
+
+/// When the processor's next step may begin, or might if it ran.
+fn clock(node: &Node) -> u64
+    ensures { result ≡ step_time node.now.state }
+{
+    node.ready().max(node.busy())
 }
 
 fn state(line: &mut Line, machine: &Machine, mode: &Mode) -> Result<(), NoMemory>

@@ -1,4 +1,4 @@
-use Rattle.std.proofs.Common.{◌≡◌, ◌++◌, max, codes, decimal, ap, ◌∙◌}
+use Rattle.std.proofs.Common.{◌≡◌, ◌++◌, codes, decimal, ap, ◌∙◌}
 use Rattle.std.proofs.lemmas.Result.{on_ok_weaker}
 use Rattle.wwt_run.specs.Text.{hex}
 use Rattle.wwt_run.specs.Report.{state_text, processor_text}
@@ -8,7 +8,6 @@ use Rattle.wwt_run.proofs.report.processor.Goals as goal
 pub returns : goal.returns
 returns c =
     let m = c.args.machine.now in
-    let clock : c.max.result ≡ max c.args.node.now.state.ready c.args.node.now.state.busy = c.max.ensures ∙ (λ i. max (c.ready.ensures i) (c.busy.ensures i)) in
-    let same : state_text m c.mode.result.now ++ (codes " pc " ++ hex c.pc.result) ++ (codes " clock " ++ decimal c.max.result) ≡ processor_text m c.args.node.now.state =
-    λ i. state_text m (c.mode.ensures i) ++ (codes " pc " ++ hex (c.pc.ensures i)) ++ (codes " clock " ++ decimal (clock i)) in
+    let same : state_text m c.mode.result.now ++ (codes " pc " ++ hex c.pc.result) ++ (codes " clock " ++ decimal c.clock.result) ≡ processor_text m c.args.node.now.state =
+    λ i. state_text m (c.mode.ensures i) ++ (codes " pc " ++ hex (c.pc.ensures i)) ++ (codes " clock " ++ decimal (c.clock.ensures i)) in
     on_ok_weaker c.entry.result (λ third. three_texts _ _ _ _ _ _ _ c.in_ok-state.ensures c.in_ok-entry_hex.ensures third ∙ ap (λ t. c.args.line.now ++ t) same) c.entry.ensures
