@@ -1,7 +1,5 @@
 -- What one event does to its node. Own, but for the instructions, which are those of the RISC-V manual.
 use Rattle.std.specs.Prelude.{ℕ, ◌+◌, ◌/◌, ◌%◌, ◌^◌, ◌==◌, [], ◌∷◌, ◌++◌, List, Option, Result, Ok, Err, slice_range, max, slice_index, nat_le, if◌then◌else◌, Some, None}
-use Rattle.std.specs.declared.cmp.Ordering.{Ordering}
-use Rattle.std.specs.Ordering.{nat_cmp, ordering_then}
 use Rattle.wt_params.specs.declared.parts.MachineParts.{MachineParts}
 use Rattle.rv_decode.specs.declared.instr.LoadOp.{LoadOp}
 use Rattle.rv_decode.specs.declared.instr.StoreOp.{StoreOp}
@@ -14,11 +12,11 @@ use Rattle.rv_exec.specs.Widths.{load_width_of, store_width_of, widened}
 use Rattle.priv_mem.specs.declared.fault.MemFault.{MemFault}
 use Rattle.priv_mem.specs.declared.fault.MemFault.TheVariants.{Misaligned, Outside}
 use Rattle.priv_mem.specs.Memory.{little_endian, load_of, store_of}
-use Rattle.node.specs.declared.key.Key.{Key}
-use Rattle.node.specs.declared.mode.Cause.{Cause}
-use Rattle.node.specs.declared.mode.Cause.TheVariants as causes
-use Rattle.node.specs.declared.mode.Mode.{Mode}
-use Rattle.node.specs.declared.mode.Mode.TheVariants.{Running, Stopped}
+use Rattle.wt_proto.specs.declared.key.Key.{Key}
+use Rattle.wt_proto.specs.declared.mode.Cause.{Cause}
+use Rattle.wt_proto.specs.declared.mode.Cause.TheVariants as causes
+use Rattle.wt_proto.specs.declared.mode.Mode.{Mode}
+use Rattle.wt_proto.specs.declared.mode.Mode.TheVariants.{Running, Stopped}
 use Rattle.node.specs.NodeState.{NodeState}
 
 -- The kinds of message. Nothing is sent yet by what is built, so there is none.
@@ -32,12 +30,6 @@ pub data Event : Type 0 where
 -- A processor's next step begins when it is ready and no trap keeps its node busy.
 abbrev pub step_time : NodeState → ℕ
 step_time node = max node.ready node.busy
-
--- Keys are compared from left to right.
-abbrev pub key_cmp : Key → Key → Ordering
-key_cmp a b =
-    ordering_then (nat_cmp a.time b.time)
-    (ordering_then (nat_cmp a.to b.to) (ordering_then (nat_cmp a.from b.from) (nat_cmp a.sequence b.sequence)))
 
 abbrev pub step_key : MachineParts → NodeState → Key
 step_key machine node = record { time = step_time node; to = node.number; from = machine.nodes; sequence = 0 }

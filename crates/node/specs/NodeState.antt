@@ -5,9 +5,9 @@ use Rattle.wt_params.specs.Machine.{IsMachine}
 use Rattle.priv_mem.specs.Memory.{overwritten}
 use Rattle.rv_exec.specs.Registers.{AreRegisters}
 use Rattle.node.specs.declared.counters.Counters.{Counters}
-use Rattle.node.specs.declared.key.Key.{Key}
-use Rattle.node.specs.declared.mode.Mode.{Mode}
-use Rattle.node.specs.declared.mode.Mode.TheVariants.{Running}
+use Rattle.wt_proto.specs.declared.key.Key.{Key}
+use Rattle.wt_proto.specs.declared.mode.Mode.{Mode}
+use Rattle.wt_proto.specs.declared.mode.Mode.TheVariants.{Running}
 
 pub record NodeState : Type 0 where
   pub number : ℕ

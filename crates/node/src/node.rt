@@ -4,14 +4,13 @@ ghost use Rattle.node.specs.NodeState.{IsNode, KeepsEvents, events_of, is_spent,
 ghost use Rattle.node.specs.Event.{Step, react, step_time, next_step_of, counted_step, stepped, fetched, executed, after_effect, loaded, stored, called, refused_access, finished, stopped, exited};
 
 use crate::counters::Counters;
-use crate::key::Key;
-use crate::mode::{Cause, Mode};
 use priv_mem::{MemFault, PrivMem};
 use rv_decode::{LoadOp, StoreOp, decode};
 use rv_exec::{Effect, Regs, execute, load_width, store_width, widen};
 use std::alloc::Global;
 use std::marker::Model;
 use wt_params::{Machine, NoMemory};
+use wt_proto::{Cause, Key, Mode};
 
 /// One node: a processor with its registers and its private memory.
 #[derive(Drop)]

@@ -3,11 +3,12 @@ use Rattle.std.proofs.Common.{◌≡◌, ℕ, suc, ◌+◌, ◌-◌, ◌*◌, �
 use Rattle.std.specs.Prelude.{◌&&◌, ◌||◌, not, nat_le, flat_map, if◌then◌else◌, ◌==◌}
 use Rattle.std.specs.FinMap.{FinMap, entries, empty, len-empty, len-entries}
 use Rattle.wt_params.specs.declared.parts.MachineParts.{MachineParts}
-use Rattle.node.specs.declared.key.Key.{Key}
-use Rattle.node.specs.declared.mode.Mode.{Mode}
-use Rattle.node.specs.declared.mode.Mode.TheVariants.{Running, Waiting, InBarrier, Stopped}
+use Rattle.wt_proto.specs.declared.key.Key.{Key}
+use Rattle.wt_proto.specs.declared.mode.Mode.{Mode}
+use Rattle.wt_proto.specs.declared.mode.Mode.TheVariants.{Running, Waiting, InBarrier, Stopped}
+use Rattle.wt_proto.specs.KeyOrder.{key_cmp}
 use Rattle.node.specs.NodeState.{NodeState, is_spent, events_of}
-use Rattle.node.specs.Event.{Event, Step, Message, key_cmp, step_key, step_time, react}
+use Rattle.node.specs.Event.{Event, Step, Message, step_key, step_time, react}
 use Rattle.wwt_run.specs.declared.head.Outcome.{Outcome}
 use Rattle.wwt_run.specs.declared.head.Outcome.TheVariants.{Finished, Budget, EventLimit, Stalled}
 use Rattle.wwt_run.specs.World.{alone, is_running, steps_of, arrivals_at, events_in}

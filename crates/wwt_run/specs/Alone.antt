@@ -2,8 +2,8 @@
 use Rattle.std.specs.Prelude.{ℕ, ◌+◌, ◌&&◌, min, nat_le, Bool, [], ◌∷◌, Option, Some, None, if◌then◌else◌}
 use Rattle.std.specs.FinMap.{empty}
 use Rattle.wt_params.specs.declared.parts.MachineParts.{MachineParts}
-use Rattle.node.specs.declared.mode.Mode.{Mode}
-use Rattle.node.specs.declared.mode.Mode.TheVariants.{Running, Stopped}
+use Rattle.wt_proto.specs.declared.mode.Mode.{Mode}
+use Rattle.wt_proto.specs.declared.mode.Mode.TheVariants.{Running, Stopped}
 use Rattle.node.specs.NodeState.{NodeState, is_spent}
 use Rattle.node.specs.Event.{step_time}
 use Rattle.wwt_run.specs.declared.head.Outcome.{Outcome}

@@ -3,9 +3,10 @@ use Rattle.std.specs.Prelude.{ℕ, suc, zero, ◌+◌, ◌*◌, ◌==◌, min, n
 use Rattle.std.specs.Ordering.{is_lt}
 use Rattle.std.specs.FinMap.{FinMap, remove}
 use Rattle.wt_params.specs.declared.parts.MachineParts.{MachineParts}
-use Rattle.node.specs.declared.key.Key.{Key}
+use Rattle.wt_proto.specs.declared.key.Key.{Key}
+use Rattle.wt_proto.specs.KeyOrder.{key_cmp}
 use Rattle.node.specs.NodeState.{NodeState}
-use Rattle.node.specs.Event.{Event, Step, Arrival, Message, key_cmp, react}
+use Rattle.node.specs.Event.{Event, Step, Arrival, Message, react}
 use Rattle.wwt_run.specs.World.{World, events_in}
 
 -- the event of lesser key

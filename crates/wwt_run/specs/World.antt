@@ -2,11 +2,12 @@
 use Rattle.std.specs.Prelude.{ℕ, ◌==◌, ◌&&◌, not, nat_lt, Bool, true, false, List, [], ◌∷◌, ◌++◌, if◌then◌else◌, flat_map}
 use Rattle.std.specs.FinMap.{FinMap, entries, empty}
 use Rattle.wt_params.specs.declared.parts.MachineParts.{MachineParts}
-use Rattle.node.specs.declared.key.Key.{Key}
-use Rattle.node.specs.declared.mode.Mode.{Mode}
-use Rattle.node.specs.declared.mode.Mode.TheVariants.{Running}
+use Rattle.wt_proto.specs.declared.key.Key.{Key}
+use Rattle.wt_proto.specs.declared.mode.Mode.{Mode}
+use Rattle.wt_proto.specs.declared.mode.Mode.TheVariants.{Running}
+use Rattle.wt_proto.specs.KeyOrder.{key_cmp}
 use Rattle.node.specs.NodeState.{NodeState, is_spent, start_node}
-use Rattle.node.specs.Event.{Event, Step, Arrival, Message, key_cmp, step_key, step_time}
+use Rattle.node.specs.Event.{Event, Step, Arrival, Message, step_key, step_time}
 
 -- The nodes, the messages under way in rising order of their keys, the end of the last quantum that was begun,
 -- and the number of quanta.

@@ -6,8 +6,9 @@ ghost use Rattle.wwt_run.specs.Outcome.{head_of, last_time_of};
 ghost use Rattle.wwt_run.specs.Alone.{due_in, world_of, kept_end_after, quanta_after, outcome_alone};
 
 use crate::head::{Head, Outcome};
-use node::{Mode, Node};
+use node::Node;
 use wt_params::{Machine, NoMemory};
+use wt_proto::Mode;
 
 /// The quanta of a run so far.
 #[derive(Clone, Copy)]
