@@ -6,7 +6,7 @@ use Rattle.std.specs.Ordering.{is_lt}
 use Rattle.std.specs.FinMap.{FinMap, get, entries, retain_keys}
 use Rattle.wt_proto.specs.declared.key.Key.{Key}
 use Rattle.wt_proto.specs.KeyOrder.{key_cmp}
-use Rattle.discrete_events.specs.Simulation.{Simulation, Event, Step, Arrival, Stamped, step_key}
+use Rattle.discrete_events.specs.Simulation.{Simulation, Event, Step, Arrival, Message, step_key}
 use Rattle.discrete_events.specs.World.{is_spent, counts_below, step_at, steps_below, reaches_below, arrival, events_below, lesser, least}
 use Rattle.discrete_events.specs.Laws.{IsIn}
 use Rattle.discrete_events.proofs.Lists.{in_left, in_right, in_append, in_map, from_map, in_flat_map, from_flat_map, any_of, from_any}
@@ -128,7 +128,7 @@ module _ {S X : Type 0} (sim : Simulation S X) where
         by true c (inr h) = absurd h
         by true c (inl h) = subst (λ (f : Key × Event X). IsEventBelow sim until nodes pending f.0 f.1) (sym h) (it c)
 
-    from_arrival : (message : Stamped X) → IsIn message (entries (retain_keys pending (reaches_below sim until nodes))) → IsEventBelow sim until nodes pending message.0 (Arrival message)
+    from_arrival : (message : Message X) → IsIn message (entries (retain_keys pending (reaches_below sim until nodes))) → IsEventBelow sim until nodes pending message.0 (Arrival message)
     from_arrival message is = by (reaches_below sim until nodes message.0) refl (sym (get_kept pending (reaches_below sim until nodes) message.0) ∙ in_get _ message is)
       where
         by : (b : Bool) → reaches_below sim until nodes message.0 ≡ b → cond b (get pending message.0) None ≡ Some message.1 → IsEventBelow sim until nodes pending message.0 (Arrival message)
@@ -154,7 +154,7 @@ module _ {S X : Type 0} (sim : Simulation S X) where
         (subst (λ (b : Bool). IsIn {A = Key × Event X} (key, Step) (cond b ((step_key sim is.node key.time, Step) ∷ []) [])) (sym is.counts)
         (inl (λ i. (is.of_node.1 i, Step))))))
 
-    arrival_in : (key : Key) (message : Stamped X) → IsEventBelow sim until nodes pending key (Arrival message) → IsIn (key, Arrival message) (events_below sim until nodes pending)
+    arrival_in : (key : Key) (message : Message X) → IsEventBelow sim until nodes pending key (Arrival message) → IsIn (key, Arrival message) (events_below sim until nodes pending)
     arrival_in key message is =
         let reaches : reaches_below sim until nodes key ≡ true = any_of _ is.node nodes is.member (true_both (sim.number is.node == key.to) (counts_below sim until is.node key.time) (eq-eqb _ _ (sym is.of_node.1)) is.counts) in
         let there : get (retain_keys pending (reaches_below sim until nodes)) key ≡ Some message.1 =

@@ -3,7 +3,7 @@ use Rattle.std.proofs.Common.{◌≡◌, ◌≢◌, ℕ, zero, suc, ◌<◌, ◌
 use Rattle.std.specs.Prelude.{flat_map}
 use Rattle.std.specs.FinMap.{get, entries, retain_keys}
 use Rattle.wt_proto.specs.declared.key.Key.{Key}
-use Rattle.discrete_events.specs.Simulation.{Simulation, Event, Stamped}
+use Rattle.discrete_events.specs.Simulation.{Simulation, Event, Message}
 use Rattle.discrete_events.specs.World.{counts_below, steps_below, reaches_below, arrival, events_below, least}
 use Rattle.discrete_events.specs.Serial.{placed, taken}
 use Rattle.discrete_events.specs.Round.{FreeRun, to_itself, to_others, with_outs, after_own, free_run}
@@ -25,14 +25,14 @@ abbrev pub IsLate : {S X : Type 0} → Simulation S X → ℕ → S → Key → 
 IsLate sim until node key = (until ≤ key.time) × (key.from ≢ sim.number node)
 
 -- a run with messages placed among what is left pending
-abbrev pub with_late : {S X : Type 0} → List (Stamped X) → FreeRun S X → FreeRun S X
+abbrev pub with_late : {S X : Type 0} → List (Message X) → FreeRun S X → FreeRun S X
 with_late ms run = record run { pending = placed run.pending ms }
 
 -- what holds of a run of a node, wherever it ends
 pub record IsRunOf {S X : Type 0} (sim : Simulation S X) (node : S) (run : FreeRun S X) : Type 0 where
   pub number : sim.number run.node ≡ sim.number node
-  pub source : (m : Stamped X) → IsIn m run.outs → m.0.from ≡ sim.number node
-  pub away : (m : Stamped X) → IsIn m run.outs → m.0.to ≢ sim.number node
+  pub source : (m : Message X) → IsIn m run.outs → m.0.from ≡ sim.number node
+  pub away : (m : Message X) → IsIn m run.outs → m.0.to ≢ sim.number node
   pub kept : (q : Key) (v : X) → get run.pending q ≡ Some v → q.to ≡ sim.number node
 
 module _ {S X : Type 0} (sim : Simulation S X) where
@@ -41,7 +41,7 @@ module _ {S X : Type 0} (sim : Simulation S X) where
   not_reached until nodes q e =
       let who = from_any _ nodes e in counts_time sim until who.0 q.time (both_true (sim.number who.0 == q.to) (counts_below sim until who.0 q.time) who.2).1
 
-  pub late_unseen : (until : ℕ) (nodes : List S) (pending : Queue X) (ms : List (Stamped X)) → ((m : Stamped X) → IsIn m ms → until ≤ m.0.time) → events_below sim until nodes (placed pending ms) ≡ events_below sim until nodes pending
+  pub late_unseen : (until : ℕ) (nodes : List S) (pending : Queue X) (ms : List (Message X)) → ((m : Message X) → IsIn m ms → until ≤ m.0.time) → events_below sim until nodes (placed pending ms) ≡ events_below sim until nodes pending
   late_unseen until nodes pending ms late =
       ap (λ queue. flat_map (steps_below sim until) nodes ++ map arrival (entries queue)) (same_queue _ _ at)
     where
@@ -72,24 +72,24 @@ module _ {S X : Type 0} (sim : Simulation S X) where
       let it = counts_and_is until node pending key event (least_in _ (key, event) is) in
       record { node = node; member = inl refl; counts = it.0; of_node = it.1 }
 
-module _ {S X : Type 0} (sim : Simulation S X) (IsSound : S → Type 0) (Fits : Stamped X → Type 0) (laws : IsSimulation sim IsSound Fits) (until : ℕ) (within : until ≤ sim.budget) where
+module _ {S X : Type 0} (sim : Simulation S X) (IsSound : S → Type 0) (Fits : Message X → Type 0) (laws : IsSimulation sim IsSound Fits) (until : ℕ) (within : until ≤ sim.budget) where
   module _ (node : S) (pending : Queue X) (key : Key) (event : Event X) (is_least : least (events_below sim until (node ∷ []) pending) ≡ Some (key, event)) (st : IsStation sim IsSound Fits node pending) where
     abbrev new_node : S
     new_node = (sim.react node event).0
 
-    abbrev sends : List (Stamped X)
+    abbrev sends : List (Message X)
     sends = (sim.react node event).1
 
-    abbrev own : List (Stamped X)
+    abbrev own : List (Message X)
     own = to_itself sim node sends
 
     own_reacts : Reacts sim IsSound Fits node key new_node sends
     own_reacts = reacts sim IsSound Fits laws until (node ∷ []) pending key event is_least (own_event sim until node pending key event is_least) st within
 
-    own_sent : (m : Stamped X) → IsIn m own → IsSent sim Fits node key m
+    own_sent : (m : Message X) → IsIn m own → IsSent sim Fits node key m
     own_sent m is = all_in (IsSent sim Fits node key) m sends own_reacts.sent (from_filter _ m sends is).0
 
-    others_sent : (m : Stamped X) → IsIn m (to_others sim node sends) → IsSent sim Fits node key m
+    others_sent : (m : Message X) → IsIn m (to_others sim node sends) → IsSent sim Fits node key m
     others_sent m is = all_in (IsSent sim Fits node key) m sends own_reacts.sent (from_filter _ m sends is).0
 
     pub own_station : IsStation sim IsSound Fits new_node (placed (taken event pending) own)
@@ -99,7 +99,7 @@ module _ {S X : Type 0} (sim : Simulation S X) (IsSound : S → Type 0) (Fits : 
     key_below = counts_time sim until node key.time (counts_and_is sim until node pending key event (least_in _ (key, event) is_least)).0
 
     -- to take the event and to place late messages commute
-    commutes : (ms : List (Stamped X)) → ((m : Stamped X) → IsIn m ms → IsLate sim until node m.0) → placed (taken event (placed pending ms)) own ≡ placed (placed (taken event pending) own) ms
+    commutes : (ms : List (Message X)) → ((m : Message X) → IsIn m ms → IsLate sim until node m.0) → placed (taken event (placed pending ms)) own ≡ placed (placed (taken event pending) own) ms
     commutes ms late = same_queue _ _ at
       where
         at : (q : Key) → get (placed (taken event (placed pending ms)) own) q ≡ get (placed (placed (taken event pending) own) ms) q
@@ -130,15 +130,15 @@ module _ {S X : Type 0} (sim : Simulation S X) (IsSound : S → Type 0) (Fits : 
                     here (inr e) = absurd (is.1 e)
 
   -- A late message passes through: the run is the run without it, with the message put back.
-  pub late_passes : (n : ℕ) (node : S) (pending : Queue X) (ms : List (Stamped X)) → IsStation sim IsSound Fits node pending → ((m : Stamped X) → IsIn m ms → IsLate sim until node m.0) → free_run sim until n node (placed pending ms) ≡ with_late ms (free_run sim until n node pending)
+  pub late_passes : (n : ℕ) (node : S) (pending : Queue X) (ms : List (Message X)) → IsStation sim IsSound Fits node pending → ((m : Message X) → IsIn m ms → IsLate sim until node m.0) → free_run sim until n node (placed pending ms) ≡ with_late ms (free_run sim until n node pending)
   unfolding free_run
   late_passes zero node pending ms st late = refl
   late_passes (suc n) node pending ms st late =
       ap (λ es. after_own sim (free_run sim until n) node (placed pending ms) (least es)) (late_unseen sim until (node ∷ []) pending ms (λ m is. (late m is).0))
       ∙ late_after n node pending ms st late (λ new queue. late_passes n new queue ms) (least (events_below sim until (node ∷ []) pending)) refl
     where
-      late_after : (n : ℕ) (node : S) (pending : Queue X) (ms : List (Stamped X)) → IsStation sim IsSound Fits node pending → ((m : Stamped X) → IsIn m ms → IsLate sim until node m.0) →
-          ((new : S) (queue : Queue X) → IsStation sim IsSound Fits new queue → ((m : Stamped X) → IsIn m ms → IsLate sim until new m.0) → free_run sim until n new (placed queue ms) ≡ with_late ms (free_run sim until n new queue)) →
+      late_after : (n : ℕ) (node : S) (pending : Queue X) (ms : List (Message X)) → IsStation sim IsSound Fits node pending → ((m : Message X) → IsIn m ms → IsLate sim until node m.0) →
+          ((new : S) (queue : Queue X) → IsStation sim IsSound Fits new queue → ((m : Message X) → IsIn m ms → IsLate sim until new m.0) → free_run sim until n new (placed queue ms) ≡ with_late ms (free_run sim until n new queue)) →
           (o : Option (Key × Event X)) → least (events_below sim until (node ∷ []) pending) ≡ o →
           after_own sim (free_run sim until n) node (placed pending ms) o ≡ with_late ms (after_own sim (free_run sim until n) node pending o)
       late_after n node pending ms st late rest None is = refl
@@ -161,7 +161,7 @@ module _ {S X : Type 0} (sim : Simulation S X) (IsSound : S → Type 0) (Fits : 
     kept = λ q v h. r.kept q v h ∙ same;
   }
     where
-      outs : List (Stamped X)
+      outs : List (Message X)
       outs = to_others sim node (sends node pending e.0 e.1 is st)
 
       new : S
@@ -174,18 +174,18 @@ module _ {S X : Type 0} (sim : Simulation S X) (IsSound : S → Type 0) (Fits : 
       same = (own_reacts node pending e.0 e.1 is st).number
 
       old : (q : Key) (v : X) → IsIn (q, v) (own node pending e.0 e.1 is st) ⊎ (get (taken e.1 pending) q ≡ Some v) → q.to ≡ sim.number node
-      old q v (inl h) = eqb-true _ _ (from_filter (λ (m : Stamped X). m.0.to == sim.number node) (q, v) (sends node pending e.0 e.1 is st) h).1
+      old q v (inl h) = eqb-true _ _ (from_filter (λ (m : Message X). m.0.to == sim.number node) (q, v) (sends node pending e.0 e.1 is st) h).1
       old q v (inr h) = kept q v (left_over sim IsSound Fits laws pending node e.0 e.1 st.fitting (counts_and_is sim until node pending e.0 e.1 (least_in _ (e.0, e.1) is)).1 q v h).0
 
       r : IsRunOf sim new later_run
       r = rest new _ (own_station node pending e.0 e.1 is st) (λ q v h. old q v (from_placed (taken e.1 pending) (own node pending e.0 e.1 is st) q v h) ∙ sym same)
 
-      source : (m : Stamped X) → IsIn m outs ⊎ IsIn m later_run.outs → m.0.from ≡ sim.number node
+      source : (m : Message X) → IsIn m outs ⊎ IsIn m later_run.outs → m.0.from ≡ sim.number node
       source m (inl h) = (others_sent node pending e.0 e.1 is st m h).source
       source m (inr h) = r.source m h ∙ same
 
-      away : (m : Stamped X) → IsIn m outs ⊎ IsIn m later_run.outs → m.0.to ≢ sim.number node
-      away m (inl h) = unequal _ _ (false_not _ (from_filter (λ (k : Stamped X). not (k.0.to == sim.number node)) m (sends node pending e.0 e.1 is st) h).1)
+      away : (m : Message X) → IsIn m outs ⊎ IsIn m later_run.outs → m.0.to ≢ sim.number node
+      away m (inl h) = unequal _ _ (false_not _ (from_filter (λ (k : Message X). not (k.0.to == sim.number node)) m (sends node pending e.0 e.1 is st) h).1)
       away m (inr h) = λ e. r.away m h (e ∙ sym same)
 
   pub run_of : (n : ℕ) (node : S) (pending : Queue X) → IsStation sim IsSound Fits node pending → ((q : Key) (v : X) → get pending q ≡ Some v → q.to ≡ sim.number node) → IsRunOf sim node (free_run sim until n node pending)

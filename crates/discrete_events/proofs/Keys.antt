@@ -1,5 +1,5 @@
 -- What the order of keys says of their times.
-use Rattle.std.proofs.Common.{◌≡◌, ◌≢◌, ℕ, ◌<◌, ◌≤◌, ◌⊎◌, Bool, true, false, refl, ap, subst, inl, inr, arith}
+use Rattle.std.proofs.Common.{◌≡◌, ◌≢◌, ℕ, ◌≤◌, ◌⊎◌, Bool, true, false, refl, ap, subst, inl, inr, arith}
 use Rattle.std.proofs.lemmas.Bool.Decides.{nat_tests}
 use Rattle.std.specs.declared.cmp.Ordering.{Ordering}
 use Rattle.std.specs.declared.cmp.Ordering.TheVariants.{Less, Equal, Greater}
@@ -13,27 +13,13 @@ use Rattle.wt_proto.proofs.KeyLaws.{key_cmp_total, tied_keys}
 abbrev pub IsUpTo : Key → Key → Type 0
 IsUpTo a b = is_gt (key_cmp a b) ≡ false
 
-first_less : (r s : Ordering) → r ≡ Less → ordering_then r s ≡ Less
-first_less Less s e = refl
-first_less Equal s e = cc
-first_less Greater s e = cc
-
 not_greater : (r s : Ordering) → is_gt (ordering_then r s) ≡ false → r ≢ Greater
 not_greater Less s e h = cc
 not_greater Equal s e h = cc
 not_greater Greater s e h = cc
 
-num_less : (a b : ℕ) → a < b → nat_cmp a b ≡ Less
-num_less a b h = grind (arith, nat_tests)
-
 num_upto : (a b : ℕ) → nat_cmp a b ≢ Greater → a ≤ b
 num_upto a b h = grind (arith, nat_tests)
-
-num_equal : (a : ℕ) → nat_cmp a a ≡ Equal
-num_equal a = grind (arith, nat_tests)
-
-pub earlier_less : (a b : Key) → a.time < b.time → key_cmp a b ≡ Less
-earlier_less a b h = first_less _ _ (num_less a.time b.time h)
 
 pub upto_time : (a b : Key) → IsUpTo a b → a.time ≤ b.time
 upto_time a b h = num_upto a.time b.time (not_greater _ _ h)

@@ -9,3 +9,5 @@ pub mod Peel
 pub mod SerialRun
 pub mod RoundIsSerial
 pub mod Whole
+pub mod OnLists
+pub mod Computed

@@ -3,7 +3,7 @@ use Rattle.std.proofs.Common.{◌≡◌, ◌≢◌, ℕ, suc, ◌+◌, ◌*◌, 
 use Rattle.std.specs.Prelude.{flat_map, sum_by}
 use Rattle.std.proofs.lemmas.List.Sums.{sum_by-cons}
 use Rattle.wt_proto.specs.declared.key.Key.{Key}
-use Rattle.discrete_events.specs.Simulation.{Simulation, Stamped}
+use Rattle.discrete_events.specs.Simulation.{Simulation, Message}
 use Rattle.discrete_events.specs.Laws.{IsIn, IsNumbered}
 use Rattle.discrete_events.proofs.Lists.{or_else, or_else_none}
 use Rattle.discrete_events.proofs.Queues.{Queue, last_of, last_of_append, first_of}
@@ -56,12 +56,12 @@ module _ {S X : Type 0} (sim : Simulation S X) where
   single_flat f from (x ∷ xs) node is (inr h) none =
       (λ i. none x (λ same. numbered_apart from x xs node is h (sym same)) i ++ single_flat f (suc from) xs node is.1 h none i)
 
-  pub none_last : (q : Key) (f : S → List (Stamped X)) (nodes : List S) → ((node : S) → IsIn node nodes → last_of q (f node) ≡ None) → last_of q (flat_map f nodes) ≡ None
+  pub none_last : (q : Key) (f : S → List (Message X)) (nodes : List S) → ((node : S) → IsIn node nodes → last_of q (f node) ≡ None) → last_of q (flat_map f nodes) ≡ None
   none_last q f [] none = refl
   none_last q f (x ∷ xs) none =
       last_of_append q (f x) (flat_map f xs) ∙ (λ i. or_else (none_last q f xs (λ n h. none n (inr h)) i) (none x (inl refl) i))
 
-  pub single_last : (q : Key) (f : S → List (Stamped X)) (from : ℕ) (nodes : List S) (node : S) → IsNumbered sim from nodes → IsIn node nodes → ((other : S) → IsIn other nodes → sim.number other ≢ sim.number node → last_of q (f other) ≡ None) → last_of q (flat_map f nodes) ≡ last_of q (f node)
+  pub single_last : (q : Key) (f : S → List (Message X)) (from : ℕ) (nodes : List S) (node : S) → IsNumbered sim from nodes → IsIn node nodes → ((other : S) → IsIn other nodes → sim.number other ≢ sim.number node → last_of q (f other) ≡ None) → last_of q (flat_map f nodes) ≡ last_of q (f node)
   single_last q f from [] node is h none = absurd h
   single_last q f from (x ∷ xs) node is (inl e) none =
       last_of_append q (f x) (flat_map f xs)
@@ -111,7 +111,7 @@ module _ {S X : Type 0} (sim : Simulation S X) where
 
   -- ---- lists that answer alike at each node
 
-  pub last_alike : (q : Key) (f g : S → List (Stamped X)) (nodes : List S) → ((node : S) → IsIn node nodes → last_of q (f node) ≡ last_of q (g node)) → last_of q (flat_map f nodes) ≡ last_of q (flat_map g nodes)
+  pub last_alike : (q : Key) (f g : S → List (Message X)) (nodes : List S) → ((node : S) → IsIn node nodes → last_of q (f node) ≡ last_of q (g node)) → last_of q (flat_map f nodes) ≡ last_of q (flat_map g nodes)
   last_alike q f g [] is = refl
   last_alike q f g (x ∷ xs) is =
       last_of_append q (f x) (flat_map f xs) ∙ (λ i. or_else (last_alike q f g xs (λ n h. is n (inr h)) i) (is x (inl refl) i)) ∙ sym (last_of_append q (g x) (flat_map g xs))

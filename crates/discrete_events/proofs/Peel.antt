@@ -8,13 +8,14 @@ use Rattle.std.specs.FinMap.{get, get-remove}
 use Rattle.wt_proto.specs.declared.key.Key.{Key}
 use Rattle.wt_proto.specs.KeyOrder.{key_cmp}
 use Rattle.wt_proto.proofs.KeyLaws.{key_cmp_total}
-use Rattle.discrete_events.specs.Simulation.{Simulation, Event, Step, Arrival, Stamped, step_key}
+use Rattle.discrete_events.specs.Simulation.{Simulation, Event, Step, Arrival, Message, step_key}
 use Rattle.discrete_events.specs.World.{counts_below, events_below, least}
 use Rattle.discrete_events.specs.Serial.{placed, taken, is_for, node_after, sent_by}
 use Rattle.discrete_events.specs.Round.{FreeRun, to_itself, to_others, with_outs, free_run, local, to_node, runs_to, together, exchanged}
 use Rattle.discrete_events.specs.Laws.{IsIn, IsAfter, IsSent, IsNumbered, Reacts, IsSimulation, IsStation}
 use Rattle.discrete_events.proofs.Lists.{or_else, or_else_none, all_in, from_filter, from_map, map_alike, map_map, flat_map_map}
-use Rattle.discrete_events.proofs.Keys.{upto_both, upto_less, earlier_less, less_trans}
+use Rattle.discrete_events.specs.KeyTimes.{earlier_less}
+use Rattle.discrete_events.proofs.Keys.{upto_both, upto_less, less_trans}
 use Rattle.discrete_events.proofs.Queues.{Queue, same_queue, get_placed, get_to_node, get_together, last_of, last_of_filter, last_is_in, last_where, last_of_append, first_of}
 use Rattle.discrete_events.proofs.Events.{IsEventOf, IsEventBelow, counts_time, counts_unspent, counts_for, event_is, event_in, event_to, least_in, least_upto, least_some}
 use Rattle.discrete_events.proofs.Stations.{taken_alike, from_placed, left_over, left_alone, reacts, goes_on}
@@ -56,7 +57,7 @@ module _ {X : Type 0} where
       by false = e
 
   -- the part of messages to a node
-  abbrev pub part_to : ℕ → List (Stamped X) → List (Stamped X)
+  abbrev pub part_to : ℕ → List (Message X) → List (Message X)
   part_to number ms = filter (λ m. m.0.to == number) ms
 
 -- what is pending once the nodes have exchanged their messages
@@ -66,7 +67,7 @@ get_exchanged {S} {X} run nodes q =
     ∙ (λ i. or_else (last_of q (flat_map_map (λ (r : FreeRun S X). r.outs) run nodes i)) (get_together (map (λ (r : FreeRun S X). r.pending) (map run nodes)) q i))
     ∙ ap (λ queues. or_else (last_of q (flat_map (λ n. (run n).outs) nodes)) (first_of q queues)) (map_map (λ (r : FreeRun S X). r.pending) run nodes)
 
-module _ {S X : Type 0} (sim : Simulation S X) (IsSound : S → Type 0) (Fits : Stamped X → Type 0) (laws : IsSimulation sim IsSound Fits) where
+module _ {S X : Type 0} (sim : Simulation S X) (IsSound : S → Type 0) (Fits : Message X → Type 0) (laws : IsSimulation sim IsSound Fits) where
   pub narrowed : (node : S) (pending : Queue X) (number : ℕ) → IsStation sim IsSound Fits node pending → IsStation sim IsSound Fits node (to_node pending number)
   narrowed node pending number st = record {
     sound = st.sound;
@@ -143,10 +144,10 @@ module _ {S X : Type 0} (sim : Simulation S X) (IsSound : S → Type 0) (Fits : 
     abbrev new_node : S
     new_node = (sim.react at.node event).0
 
-    abbrev sends : List (Stamped X)
+    abbrev sends : List (Message X)
     sends = (sim.react at.node event).1
 
-    abbrev others : List (Stamped X)
+    abbrev others : List (Message X)
     others = to_others sim at.node sends
 
     its_reacts : Reacts sim IsSound Fits at.node key new_node sends
@@ -223,7 +224,7 @@ module _ {S X : Type 0} (sim : Simulation S X) (IsSound : S → Type 0) (Fits : 
 
     -- ---- the nodes and messages after it
 
-    sent_is : (m : Stamped X) → IsIn m sends → IsSent sim Fits at.node key m
+    sent_is : (m : Message X) → IsIn m sends → IsSent sim Fits at.node key m
     sent_is m is = all_in (IsSent sim Fits at.node key) m sends its_reacts.sent is
 
     from_after : (q : Key) (v : X) → get pending_after q ≡ Some v → IsIn (q, v) sends ⊎ ((get pending q ≡ Some v) × (q ≢ key))
@@ -366,8 +367,8 @@ module _ {S X : Type 0} (sim : Simulation S X) (IsSound : S → Type 0) (Fits : 
           fuel : sim.event_limit - sim.handled at.node ≡ suc (sim.event_limit - sim.handled new_node)
           fuel = let h = its_reacts.handled in let w = laws.within new_node its_reacts.sound in omega arith
 
-      is_late : (other : S) → sim.number other ≢ sim.number at.node → (m : Stamped X) → IsIn m (part_to (sim.number other) sends) → IsLate sim until other m.0
-      is_late other n m h = by (from_filter (λ (k : Stamped X). k.0.to == sim.number other) m sends h)
+      is_late : (other : S) → sim.number other ≢ sim.number at.node → (m : Message X) → IsIn m (part_to (sim.number other) sends) → IsLate sim until other m.0
+      is_late other n m h = by (from_filter (λ (k : Message X). k.0.to == sim.number other) m sends h)
         where
           by : IsIn m sends × ((m.0.to == sim.number other) ≡ true) → IsLate sim until other m.0
           by it = timely (all_in (IsSent sim Fits at.node key) m sends its_reacts.sent it.0) (eqb-true _ _ it.1)
@@ -431,7 +432,7 @@ module _ {S X : Type 0} (sim : Simulation S X) (IsSound : S → Type 0) (Fits : 
           ∙ sym (get_exchanged run_behind nodes q ∙ (λ i. or_else (last_behind i) (queued (numbered_find sim 0 nodes q.to numbered (omega arith) (laws.addressed (q, v) sent.fits)) i)))
         where
           it : IsIn (q, v) sends × (not (q.to == sim.number at.node) ≡ true)
-          it = from_filter (λ (k : Stamped X). not (k.0.to == sim.number at.node)) (q, v) sends (last_is_in q others v some)
+          it = from_filter (λ (k : Message X). not (k.0.to == sim.number at.node)) (q, v) sends (last_is_in q others v some)
 
           sent : IsSent sim Fits at.node key (q, v)
           sent = all_in (IsSent sim Fits at.node key) (q, v) sends its_reacts.sent it.0

@@ -10,7 +10,7 @@ use Rattle.std.specs.FinMap.Entries.{below_all}
 use Rattle.wt_proto.specs.declared.key.Key.{Key}
 use Rattle.wt_proto.specs.KeyOrder.{key_cmp}
 use Rattle.wt_proto.proofs.KeyLaws.{key_cmp_total, tied_keys}
-use Rattle.discrete_events.specs.Simulation.{Stamped}
+use Rattle.discrete_events.specs.Simulation.{Message}
 use Rattle.discrete_events.specs.Serial.{placed}
 use Rattle.discrete_events.specs.Round.{to_node, together}
 use Rattle.discrete_events.specs.Laws.{IsIn}
@@ -45,7 +45,7 @@ module _ {X : Type 0} where
   get_to_node m number q = get_kept m (λ key. key.to == number) q
 
   -- the last message under a key in a list
-  abbrev pub last_of : Key → List (Stamped X) → Option X
+  abbrev pub last_of : Key → List (Message X) → Option X
   last_of q [] = None
   last_of q (m ∷ ms) = or_else (last_of q ms) (cond (eq_by_cmp key_cmp q m.0) (Some m.1) None)
 
@@ -53,21 +53,21 @@ module _ {X : Type 0} where
   joined true v a = refl
   joined false v a = refl
 
-  pub get_placed : (m : Queue X) (ms : List (Stamped X)) (q : Key) → get (placed m ms) q ≡ or_else (last_of q ms) (get m q)
+  pub get_placed : (m : Queue X) (ms : List (Message X)) (q : Key) → get (placed m ms) q ≡ or_else (last_of q ms) (get m q)
   get_placed m [] q = refl
   get_placed m (x ∷ ms) q =
       get_placed (insert m x.0 x.1) ms q
       ∙ ap (or_else (last_of q ms)) (get-insert key_cmp_total m x.0 x.1 q ∙ joined (eq_by_cmp key_cmp q x.0) x.1 (get m q))
       ∙ sym (or_else_assoc (last_of q ms) (cond (eq_by_cmp key_cmp q x.0) (Some x.1) None) (get m q))
 
-  pub last_of_append : (q : Key) (xs ys : List (Stamped X)) → last_of q (xs ++ ys) ≡ or_else (last_of q ys) (last_of q xs)
+  pub last_of_append : (q : Key) (xs ys : List (Message X)) → last_of q (xs ++ ys) ≡ or_else (last_of q ys) (last_of q xs)
   last_of_append q [] ys = sym (or_else_none (last_of q ys))
   last_of_append q (x ∷ xs) ys =
       ap (λ a. or_else a (cond (eq_by_cmp key_cmp q x.0) (Some x.1) None)) (last_of_append q xs ys)
       ∙ or_else_assoc (last_of q ys) (last_of q xs) (cond (eq_by_cmp key_cmp q x.0) (Some x.1) None)
 
   -- what is found under a key is of the list
-  pub last_is_in : (q : Key) (ms : List (Stamped X)) (v : X) → last_of q ms ≡ Some v → IsIn (q, v) ms
+  pub last_is_in : (q : Key) (ms : List (Message X)) (v : X) → last_of q ms ≡ Some v → IsIn (q, v) ms
   last_is_in q [] v e = cc
   last_is_in q (m ∷ ms) v e = later (last_is_in q ms v) (last_of q ms) refl e
     where
@@ -80,7 +80,7 @@ module _ {X : Type 0} where
       later rest (Some w) is h = inr (rest (is ∙ h))
 
   -- where all keys of a list have P, there is nothing in it under a key that doesn't
-  pub last_where : (P : Key → Type 0) (q : Key) (ms : List (Stamped X)) → ((m : Stamped X) → IsIn m ms → P m.0) → (last_of q ms ≡ None) ⊎ P q
+  pub last_where : (P : Key → Type 0) (q : Key) (ms : List (Message X)) → ((m : Message X) → IsIn m ms → P m.0) → (last_of q ms ≡ None) ⊎ P q
   last_where P q ms all = either (last_of q ms) refl
     where
       either : (a : Option X) → last_of q ms ≡ a → (a ≡ None) ⊎ P q
@@ -88,7 +88,7 @@ module _ {X : Type 0} where
       either (Some v) is = inr (all (q, v) (last_is_in q ms v is))
 
   -- what passes a test of keys is found as before in what is left
-  pub last_of_filter : (p : Key → Bool) (q : Key) (ms : List (Stamped X)) → last_of q (filter (λ m. p m.0) ms) ≡ cond (p q) (last_of q ms) None
+  pub last_of_filter : (p : Key → Bool) (q : Key) (ms : List (Message X)) → last_of q (filter (λ m. p m.0) ms) ≡ cond (p q) (last_of q ms) None
   last_of_filter p q [] = nothing (p q)
     where
       nothing : (b : Bool) → ◌≡◌ {A = Option X} None (cond b None None)
@@ -111,7 +111,7 @@ module _ {X : Type 0} where
   first_of q [] = None
   first_of q (m ∷ ms) = or_else (get m q) (first_of q ms)
 
-  find_append : (q : Key) (xs ys : List (Stamped X)) → find key_cmp q (xs ++ ys) ≡ or_else (find key_cmp q xs) (find key_cmp q ys)
+  find_append : (q : Key) (xs ys : List (Message X)) → find key_cmp q (xs ++ ys) ≡ or_else (find key_cmp q xs) (find key_cmp q ys)
   find_append q [] ys = refl
   find_append q (x ∷ xs) ys = ap (cond (eq_by_cmp key_cmp q x.0) (Some x.1)) (find_append q xs ys) ∙ moved (eq_by_cmp key_cmp q x.0)
     where
@@ -127,7 +127,7 @@ module _ {X : Type 0} where
   get_together ms q = get-from_entries key_cmp_total (flat_map entries ms) q ∙ find_first q ms
 
   -- the entries of a queue are what it has under their keys
-  find_is_in : (q : Key) (v : X) (es : List (Stamped X)) → find key_cmp q es ≡ Some v → IsIn (q, v) es
+  find_is_in : (q : Key) (v : X) (es : List (Message X)) → find key_cmp q es ≡ Some v → IsIn (q, v) es
   find_is_in q v [] e = cc
   find_is_in q v (m ∷ ms) e = at (find_is_in q v ms) (eq_by_cmp key_cmp q m.0) refl e
     where
@@ -138,19 +138,19 @@ module _ {X : Type 0} where
   pub get_is_in : (m : Queue X) (q : Key) (v : X) → get m q ≡ Some v → IsIn (q, v) (entries m)
   get_is_in m q v e = find_is_in q v (entries m) (sym (get-entries m q) ∙ e)
 
-  above_all : (k : Key) (x : Stamped X) (es : List (Stamped X)) → T (below_all key_cmp k es) → IsIn x es → key_cmp k x.0 ≡ Less
+  above_all : (k : Key) (x : Message X) (es : List (Message X)) → T (below_all key_cmp k es) → IsIn x es → key_cmp k x.0 ≡ Less
   above_all k x [] h is = absurd is
-  above_all k x (y ∷ ys) h (inl e) = subst (λ (z : Stamped X). key_cmp k z.0 ≡ Less) (sym e) (less _ (first_part (is_lt (key_cmp k y.0)) _ h))
+  above_all k x (y ∷ ys) h (inl e) = subst (λ (z : Message X). key_cmp k z.0 ≡ Less) (sym e) (less _ (first_part (is_lt (key_cmp k y.0)) _ h))
   above_all k x (y ∷ ys) h (inr is) = above_all k x ys (second_part (is_lt (key_cmp k y.0)) _ h) is
 
-  in_find : (x : Stamped X) (es : List (Stamped X)) → T (is_sorted key_cmp es) → IsIn x es → find key_cmp x.0 es ≡ Some x.1
+  in_find : (x : Message X) (es : List (Message X)) → T (is_sorted key_cmp es) → IsIn x es → find key_cmp x.0 es ≡ Some x.1
   in_find x [] h is = absurd is
   in_find x (y ∷ ys) h (inl e) =
-      ap (λ (b : Bool). cond b (Some y.1) (find key_cmp x.0 ys)) (same_key x.0 y.0 (ap (λ (z : Stamped X). z.0) e)) ∙ ap (λ (z : Stamped X). Some z.1) (sym e)
+      ap (λ (b : Bool). cond b (Some y.1) (find key_cmp x.0 ys)) (same_key x.0 y.0 (ap (λ (z : Message X). z.0) e)) ∙ ap (λ (z : Message X). Some z.1) (sym e)
   in_find x (y ∷ ys) h (inr is) =
       let less = above_all y.0 x ys (first_part (below_all key_cmp y.0 ys) _ h) is in
       ap (λ (b : Bool). cond b (Some y.1) (find key_cmp x.0 ys)) (isnt_key x.0 y.0 (λ e. not_less_itself x.0 (subst (λ k. key_cmp k x.0 ≡ Less) (sym e) less)))
       ∙ in_find x ys (second_part (below_all key_cmp y.0 ys) _ h) is
 
-  pub in_get : (m : Queue X) (x : Stamped X) → IsIn x (entries m) → get m x.0 ≡ Some x.1
+  pub in_get : (m : Queue X) (x : Message X) → IsIn x (entries m) → get m x.0 ≡ Some x.1
   in_get m x is = get-entries m x.0 ∙ in_find x (entries m) (entries_sorted m) is

@@ -2,7 +2,7 @@
 use Rattle.std.proofs.Common.{◌≡◌, ℕ, zero, suc, ◌+◌, ◌-◌, ◌*◌, ◌<◌, ◌≤◌, ◌⊎◌, List, [], ◌∷◌, map, Bool, true, false, cond, Option, Some, None, refl, ap, sym, ◌∙◌, subst, inl, inr, ◌==◌, arith}
 use Rattle.std.specs.FinMap.{get}
 use Rattle.wt_proto.specs.declared.key.Key.{Key}
-use Rattle.discrete_events.specs.Simulation.{Simulation, Event, Stamped}
+use Rattle.discrete_events.specs.Simulation.{Simulation, Event, Message}
 use Rattle.discrete_events.specs.World.{World, events_in, least}
 use Rattle.discrete_events.specs.Serial.{serial_step, serial}
 use Rattle.discrete_events.specs.Round.{FreeRun, local, to_node, runs_to, exchanged, round, quantum_end}
@@ -17,7 +17,7 @@ use Rattle.discrete_events.proofs.Numbered.{none_last, none_first, single_first,
 use Rattle.discrete_events.proofs.Peel.{get_exchanged, is_to_node, not_to_node, none_own, peel_nodes, peel_pending}
 use Rattle.discrete_events.proofs.SerialRun.{serial-zero, serial_first, moved, step_of_least, inside, opened, world_moved, world_stepped, moved_rises, moved_handled, stepped_handled, handled_bound}
 
-module _ {S X : Type 0} (sim : Simulation S X) (IsSound : S → Type 0) (Fits : Stamped X → Type 0) (laws : IsSimulation sim IsSound Fits) where
+module _ {S X : Type 0} (sim : Simulation S X) (IsSound : S → Type 0) (Fits : Message X → Type 0) (laws : IsSimulation sim IsSound Fits) where
   -- the world when all nodes have run and exchanged their messages, but for its quanta
   abbrev ran : ℕ → World S X → World S X
   ran until world = record world {

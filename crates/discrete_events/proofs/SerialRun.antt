@@ -5,7 +5,7 @@ use Rattle.std.proofs.lemmas.Bool.Decides.{nat_tests}
 use Rattle.std.specs.declared.cmp.Ordering.TheVariants.{Less}
 use Rattle.wt_proto.specs.declared.key.Key.{Key}
 use Rattle.wt_proto.specs.KeyOrder.{key_cmp}
-use Rattle.discrete_events.specs.Simulation.{Simulation, Event, Stamped}
+use Rattle.discrete_events.specs.Simulation.{Simulation, Event, Message}
 use Rattle.discrete_events.specs.World.{World, events_in, least}
 use Rattle.discrete_events.specs.Serial.{placed, taken, node_after, sent_by, with_quantum, after_least, serial_step, serial, final}
 use Rattle.discrete_events.specs.Laws.{IsIn, IsSimulation, IsWorld, IsSerialFrom, handled_in}
@@ -66,7 +66,7 @@ module _ {S X : Type 0} (sim : Simulation S X) where
       by true = begun
       by false = inside
 
-module _ {S X : Type 0} (sim : Simulation S X) (IsSound : S → Type 0) (Fits : Stamped X → Type 0) (laws : IsSimulation sim IsSound Fits) where
+module _ {S X : Type 0} (sim : Simulation S X) (IsSound : S → Type 0) (Fits : Message X → Type 0) (laws : IsSimulation sim IsSound Fits) where
   module _ (world : World S X) (ok : IsWorld sim IsSound Fits world) (key : Key) (event : Event X) (is_least : least (events_in sim world) ≡ Some (key, event)) where
     pub world_moved : IsWorld sim IsSound Fits (moved sim key event world)
     world_moved = record {

@@ -6,12 +6,13 @@ use Rattle.std.specs.FinMap.{get, remove, get-remove}
 use Rattle.wt_proto.specs.declared.key.Key.{Key}
 use Rattle.wt_proto.specs.KeyOrder.{key_cmp}
 use Rattle.wt_proto.proofs.KeyLaws.{key_cmp_total}
-use Rattle.discrete_events.specs.Simulation.{Simulation, Event, Step, Arrival, Stamped, step_key}
+use Rattle.discrete_events.specs.Simulation.{Simulation, Event, Step, Arrival, Message, step_key}
 use Rattle.discrete_events.specs.World.{events_below, least}
 use Rattle.discrete_events.specs.Serial.{placed, taken}
 use Rattle.discrete_events.specs.Laws.{IsIn, IsAfter, IsItsOwn, IsDue, IsSent, Reacts, IsSimulation, IsStation}
 use Rattle.discrete_events.proofs.Lists.{or_else}
-use Rattle.discrete_events.proofs.Keys.{IsUpTo, earlier_less, upto_time, upto_less, same_key, isnt_key}
+use Rattle.discrete_events.specs.KeyTimes.{earlier_less}
+use Rattle.discrete_events.proofs.Keys.{IsUpTo, upto_time, upto_less, same_key, isnt_key}
 use Rattle.discrete_events.proofs.Queues.{Queue, get_placed, last_of, last_is_in}
 use Rattle.discrete_events.proofs.Events.{IsEventOf, IsEventBelow, counts_time, counts_unspent, counts_for, event_in, least_upto}
 
@@ -38,14 +39,14 @@ module _ {X : Type 0} where
       get-remove key_cmp_total a message.0 q ∙ ap (cond (eq_by_cmp key_cmp q message.0) None) e ∙ sym (get-remove key_cmp_total b message.0 q)
 
   -- what is under a key that is placed comes from the messages, or else was there
-  pub from_placed : (pending : Queue X) (ms : List (Stamped X)) (q : Key) (v : X) → get (placed pending ms) q ≡ Some v → IsIn (q, v) ms ⊎ (get pending q ≡ Some v)
+  pub from_placed : (pending : Queue X) (ms : List (Message X)) (q : Key) (v : X) → get (placed pending ms) q ≡ Some v → IsIn (q, v) ms ⊎ (get pending q ≡ Some v)
   from_placed pending ms q v e = by (last_of q ms) refl (sym (get_placed pending ms q) ∙ e)
     where
       by : (a : Option X) → last_of q ms ≡ a → or_else a (get pending q) ≡ Some v → IsIn (q, v) ms ⊎ (get pending q ≡ Some v)
       by None is h = inr h
       by (Some w) is h = inl (last_is_in q ms v (is ∙ h))
 
-module _ {S X : Type 0} (sim : Simulation S X) (IsSound : S → Type 0) (Fits : Stamped X → Type 0) (laws : IsSimulation sim IsSound Fits) where
+module _ {S X : Type 0} (sim : Simulation S X) (IsSound : S → Type 0) (Fits : Message X → Type 0) (laws : IsSimulation sim IsSound Fits) where
   abbrev pub Station : S → Queue X → Type 0
   Station node pending = IsStation sim IsSound Fits node pending
 
@@ -103,7 +104,7 @@ module _ {S X : Type 0} (sim : Simulation S X) (IsSound : S → Type 0) (Fits : 
     reacts within = laws.reacts at.node key event st.sound (due within)
 
     -- after the event, with some of what it sent
-    pub goes_on : until ≤ sim.budget → (ms : List (Stamped X)) → ((m : Stamped X) → IsIn m ms → IsSent sim Fits at.node key m) → Station (sim.react at.node event).0 (placed (taken event pending) ms)
+    pub goes_on : until ≤ sim.budget → (ms : List (Message X)) → ((m : Message X) → IsIn m ms → IsSent sim Fits at.node key m) → Station (sim.react at.node event).0 (placed (taken event pending) ms)
     goes_on within ms sent = record {
       sound = r.sound;
       fitting = λ q v e. fitting q v (from_placed (taken event pending) ms q v e);

@@ -4,7 +4,7 @@ use Rattle.std.specs.declared.cmp.Ordering.TheVariants.{Less}
 use Rattle.std.specs.FinMap.{get, get-empty}
 use Rattle.wt_proto.specs.declared.key.Key.{Key}
 use Rattle.wt_proto.specs.KeyOrder.{key_cmp}
-use Rattle.discrete_events.specs.Simulation.{Simulation, Event, Stamped, step_key}
+use Rattle.discrete_events.specs.Simulation.{Simulation, Event, Message, step_key}
 use Rattle.discrete_events.specs.World.{World, events_in, events_below, least}
 use Rattle.discrete_events.specs.Serial.{placed, taken, after_least, serial_step, serial}
 use Rattle.discrete_events.specs.Round.{to_itself, after_own, free_run, round, quantum_end, after_opening, rounds}
@@ -18,13 +18,13 @@ use Rattle.discrete_events.proofs.Peel.{peel_nodes, peel_pending}
 use Rattle.discrete_events.proofs.SerialRun.{serial-zero, serial-suc, serial_append, moved, step_of_least, quantum_or_not, stepped_rises, world_of_serial, serial_from, final_has_none, ended}
 use Rattle.discrete_events.proofs.RoundIsSerial as one_round
 
-module _ {S X : Type 0} (sim : Simulation S X) (IsSound : S → Type 0) (Fits : Stamped X → Type 0) (laws : IsSimulation sim IsSound Fits) where
+module _ {S X : Type 0} (sim : Simulation S X) (IsSound : S → Type 0) (Fits : Message X → Type 0) (laws : IsSimulation sim IsSound Fits) where
   pub late_message_passes : LateMessagePasses sim IsSound Fits
   late_message_passes until node pending message within st late apart =
       late_passes sim IsSound Fits laws until within (sim.event_limit - sim.handled node) node pending (message ∷ []) st only
     where
-      only : (m : Stamped X) → IsIn m (message ∷ []) → (until ≤ m.0.time) × (m.0.from ≢ sim.number node)
-      only m (inl e) = subst (λ (k : Stamped X). (until ≤ k.0.time) × (k.0.from ≢ sim.number node)) (sym e) (late, apart)
+      only : (m : Message X) → IsIn m (message ∷ []) → (until ≤ m.0.time) × (m.0.from ≢ sim.number node)
+      only m (inl e) = subst (λ (k : Message X). (until ≤ k.0.time) × (k.0.from ≢ sim.number node)) (sym e) (late, apart)
       only m (inr none) = absurd none
 
   pub least_event_peels : LeastEventPeels sim IsSound Fits

@@ -4,3 +4,6 @@ pub mod Serial
 pub mod Round
 pub mod Laws
 pub mod Theorems
+pub mod KeyTimes
+pub mod Couriers
+pub mod CourierLaws

@@ -4,7 +4,7 @@ use Rattle.std.specs.List.{filter}
 use Rattle.std.specs.FinMap.{FinMap, entries, retain_keys, from_entries}
 use Rattle.wt_proto.specs.declared.key.Key.{Key}
 use Rattle.wt_proto.specs.KeyOrder.{key_cmp}
-use Rattle.discrete_events.specs.Simulation.{Simulation, Event, Stamped}
+use Rattle.discrete_events.specs.Simulation.{Simulation, Event, Message}
 use Rattle.discrete_events.specs.World.{World, events_below, events_in, least}
 use Rattle.discrete_events.specs.Serial.{placed, taken}
 
@@ -12,15 +12,15 @@ use Rattle.discrete_events.specs.Serial.{placed, taken}
 pub record FreeRun (S X : Type 0) : Type 0 where
   pub node : S
   pub pending : FinMap key_cmp X
-  pub outs : List (Stamped X)
+  pub outs : List (Message X)
 
-abbrev pub to_itself : {S X : Type 0} → Simulation S X → S → List (Stamped X) → List (Stamped X)
+abbrev pub to_itself : {S X : Type 0} → Simulation S X → S → List (Message X) → List (Message X)
 to_itself sim node sends = filter (λ message. message.0.to == sim.number node) sends
 
-abbrev pub to_others : {S X : Type 0} → Simulation S X → S → List (Stamped X) → List (Stamped X)
+abbrev pub to_others : {S X : Type 0} → Simulation S X → S → List (Message X) → List (Message X)
 to_others sim node sends = filter (λ message. not (message.0.to == sim.number node)) sends
 
-abbrev pub with_outs : {S X : Type 0} → List (Stamped X) → FreeRun S X → FreeRun S X
+abbrev pub with_outs : {S X : Type 0} → List (Message X) → FreeRun S X → FreeRun S X
 with_outs outs run = record run { outs = outs ++ run.outs }
 
 -- A node takes its least event, what it sends to itself joins its pending messages, and so on with the rest of its run.

@@ -3,11 +3,11 @@ use Rattle.std.specs.Prelude.{ℕ, suc, zero, ◌+◌, ◌*◌, ◌==◌, min, n
 use Rattle.std.specs.FinMap.{FinMap, insert, remove}
 use Rattle.wt_proto.specs.declared.key.Key.{Key}
 use Rattle.wt_proto.specs.KeyOrder.{key_cmp}
-use Rattle.discrete_events.specs.Simulation.{Simulation, Event, Step, Arrival, Stamped}
+use Rattle.discrete_events.specs.Simulation.{Simulation, Event, Step, Arrival, Message}
 use Rattle.discrete_events.specs.World.{World, events_in, least}
 
 -- Messages are placed among the pending ones by their keys.
-abbrev pub placed : {X : Type 0} → FinMap key_cmp X → List (Stamped X) → FinMap key_cmp X
+abbrev pub placed : {X : Type 0} → FinMap key_cmp X → List (Message X) → FinMap key_cmp X
 placed pending [] = pending
 placed pending (message ∷ messages) = placed (insert pending message.0 message.1) messages
 
@@ -24,7 +24,7 @@ is_for sim key node = sim.number node == key.to
 abbrev pub node_after : {S X : Type 0} → Simulation S X → Key → Event X → S → S
 node_after sim key event node = if is_for sim key node then (sim.react node event).0 else node
 
-abbrev pub sent_by : {S X : Type 0} → Simulation S X → Key → Event X → S → List (Stamped X)
+abbrev pub sent_by : {S X : Type 0} → Simulation S X → Key → Event X → S → List (Message X)
 sent_by sim key event node = if is_for sim key node then (sim.react node event).1 else []
 
 -- An event whose time isn't below the kept end begins a quantum.

@@ -2,14 +2,14 @@
 use Rattle.std.specs.Prelude.{ℕ, List, Option}
 use Rattle.wt_proto.specs.declared.key.Key.{Key}
 
--- A message under its stamp: its time, destination, source, and place among all that its source sent.
-abbrev pub Stamped : Type 0 → Type 0
-Stamped X = Key × X
+-- A message is what it says under its stamp: its time, destination, source, and place among all that its source sent.
+abbrev pub Message : Type 0 → Type 0
+Message X = Key × X
 
 -- an event of a node: the next step of its processor, or a message that comes to it
 pub data Event (X : Type 0) : Type 0 where
   Step : Event X
-  Arrival : Stamped X → Event X
+  Arrival : Message X → Event X
 
 -- Node states and messages may be of any type.
 pub record Simulation (S X : Type 0) : Type 0 where
@@ -29,7 +29,7 @@ pub record Simulation (S X : Type 0) : Type 0 where
   -- when a node's next step begins, where its processor runs
   pub next : S → Option ℕ
   -- the node after an event, and the messages that it sends, in order of sending
-  pub react : S → Event X → S × List (Stamped X)
+  pub react : S → Event X → S × List (Message X)
 
 -- A step has the number of nodes for its source, so a message of the same time and node goes before it.
 abbrev pub step_key : {S X : Type 0} → Simulation S X → S → ℕ → Key

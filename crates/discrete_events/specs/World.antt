@@ -5,7 +5,7 @@ use Rattle.std.specs.Ordering.{is_lt}
 use Rattle.std.specs.FinMap.{FinMap, entries, retain_keys}
 use Rattle.wt_proto.specs.declared.key.Key.{Key}
 use Rattle.wt_proto.specs.KeyOrder.{key_cmp}
-use Rattle.discrete_events.specs.Simulation.{Simulation, Event, Step, Arrival, Stamped, step_key}
+use Rattle.discrete_events.specs.Simulation.{Simulation, Event, Step, Arrival, Message, step_key}
 
 -- The nodes, the pending messages in rising order of their keys, the end of the last quantum that was begun,
 -- and the number of quanta.
@@ -38,7 +38,7 @@ abbrev pub reaches_below : {S X : Type 0} → Simulation S X → ℕ → List S 
 reaches_below sim until nodes key =
     list_any (λ node. sim.number node == key.to && counts_below sim until node key.time) nodes
 
-abbrev pub arrival : {X : Type 0} → Stamped X → Key × Event X
+abbrev pub arrival : {X : Type 0} → Message X → Key × Event X
 arrival message = (message.0, Arrival message)
 
 -- The events below a time of some nodes, each under its key.

@@ -1,19 +1,19 @@
-ghost use Rattle.discrete_events.specs.Simulation.{Simulation, Stamped};
+ghost use Rattle.discrete_events.specs.Simulation.{Simulation, Message};
 ghost use Rattle.discrete_events.specs.Laws.{IsSimulation};
 ghost use Rattle.discrete_events.specs.Theorems.{LateMessagePasses, LeastEventPeels, RoundIsSerial, RoundsAreSerial, SerialRunEnds, NoPast, NoPastOfRun, KeysRise, StartIsWorld};
 
 /// A simulation whose node states are the values of a type, and that keeps the laws.
 pub trait Simulated {
     /// What its messages say.
-    type Message;
+    type Body;
 
-    ghost simulation: { Simulation Self Self.Message };
+    ghost simulation: { Simulation Self Self.Body };
 
     /// What every event keeps of a node.
     ghost is_sound: { Self → Type 0 };
 
     /// The messages that may be sent.
-    ghost fits: { Stamped Self.Message → Type 0 };
+    ghost fits: { Message Self.Body → Type 0 };
 
     ghost laws: { IsSimulation simulation is_sound fits };
 }
