@@ -1,8 +1,17 @@
 -- What the places of true cells have to do with rising lists.
-use Rattle.std.proofs.Common.{◌≡◌, ℕ, zero, suc, ◌+◌, ◌<◌, ◌≤◌, Bool, true, false, List, [], ◌∷◌, length, refl, ap, sym, ◌∙◌, arith, get_or, set}
+use Rattle.std.proofs.Common.{◌≡◌, ℕ, zero, suc, ◌+◌, ◌<◌, ◌≤◌, Bool, true, false, List, [], ◌∷◌, ◌++◌, length, refl, ap, sym, ◌∙◌, arith, get_or, set, add-one}
 use Rattle.std.proofs.lemmas.Bool.Decides.{nat_tests}
 use Rattle.std.specs.Prelude.{◌==◌}
-use Rattle.wt_proto.specs.NodeSets.{places_from, has_node, with_node}
+use Rattle.std.specs.List.{range_with_len}
+use Rattle.wt_proto.specs.NodeSets.{nodes_below, places_from, has_node, with_node}
+
+range-more : (first count last : ℕ) → last ≡ first + count → range_with_len first (suc count) ≡ range_with_len first count ++ last ∷ []
+range-more first zero last is = ap (λ n. n ∷ []) (omega arith)
+range-more first (suc count) last is = ap (λ rest. first ∷ rest) (range-more (first + 1) count last (omega arith))
+
+-- one more node
+pub nodes_below-more : (count : ℕ) → nodes_below (count + 1) ≡ nodes_below count ++ count ∷ []
+nodes_below-more count = ap nodes_below (add-one count) ∙ range-more 0 count count (omega arith)
 
 -- a node before all of a list goes first
 goes_first : (n k : ℕ) (cells : List Bool) → n < k → with_node n (places_from k cells) ≡ n ∷ places_from k cells

@@ -1,6 +1,10 @@
 -- Sets of nodes, as rising lists of numbers. Own.
 use Rattle.std.specs.Prelude.{ℕ, ◌+◌, ◌==◌, nat_lt, Bool, true, false, List, [], ◌∷◌, if◌then◌else◌}
-use Rattle.std.specs.List.{list_any}
+use Rattle.std.specs.List.{list_any, range_with_len}
+
+-- the nodes of a machine of so many
+abbrev pub nodes_below : ℕ → List ℕ
+nodes_below count = range_with_len 0 count
 
 -- the places that hold true, counted from a number on
 abbrev pub places_from : ℕ → List Bool → List ℕ
