@@ -5,7 +5,7 @@ use Rattle.std.specs.List.{filter}
 use Rattle.std.specs.declared.cmp.Ordering.{Ordering}
 use Rattle.std.specs.declared.cmp.Ordering.TheVariants.{Less, Equal, Greater}
 use Rattle.std.specs.Ordering.{eq_by_cmp, is_lt}
-use Rattle.std.specs.FinMap.{FinMap, find, get, insert, entries, retain_keys, is_sorted, entries_sorted, get-insert, get-retain_keys, get-entries, get-from_entries, same_map}
+use Rattle.std.specs.FinMap.{FinMap, find, get, empty, get-empty, insert, entries, retain_keys, is_sorted, entries_sorted, get-insert, get-retain_keys, get-entries, get-from_entries, same_map}
 use Rattle.std.specs.FinMap.Entries.{below_all}
 use Rattle.wt_proto.specs.declared.key.Key.{Key}
 use Rattle.wt_proto.specs.KeyOrder.{key_cmp}
@@ -154,3 +154,15 @@ module _ {X : Type 0} where
 
   pub in_get : (m : Queue X) (x : Message X) → IsIn x (entries m) → get m x.0 ≡ Some x.1
   in_get m x is = get-entries m x.0 ∙ in_find x (entries m) (entries_sorted m) is
+
+  entries_of_nothing : (es : List (Message X)) → ((m : Message X) → IsIn m es → ⊥) → es ≡ []
+  entries_of_nothing [] none = refl
+  entries_of_nothing (m ∷ ms) none = absurd (none m (inl refl))
+
+  -- nothing passes where nothing is pending
+  pub kept_of_nothing : (p : Key → Bool) → entries (retain_keys (empty {X = X} {R = key_cmp}) p) ≡ []
+  kept_of_nothing p = entries_of_nothing _ (λ m is. nothing (p m.0) m.1 (sym (get_kept (empty {X = X} {R = key_cmp}) p m.0 ∙ ap (λ (a : Option X). cond (p m.0) a None) (get-empty key_cmp m.0)) ∙ in_get _ m is))
+    where
+      nothing : (b : Bool) (v : X) → ◌≡◌ {A = Option X} (cond b None None) (Some v) → ⊥
+      nothing true v e = cc
+      nothing false v e = cc

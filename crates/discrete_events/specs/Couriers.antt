@@ -4,7 +4,7 @@ use Rattle.std.specs.Option.{unwrap_or}
 use Rattle.std.specs.FinMap.{empty}
 use Rattle.wt_proto.specs.declared.key.Key.{Key}
 use Rattle.discrete_events.specs.declared.courier.Courier.{Courier}
-use Rattle.discrete_events.specs.Simulation.{Simulation, Event, Step, Arrival, Message}
+use Rattle.discrete_events.specs.Simulation.{Simulation, Event, Step, Arrival, Message, key_of_step}
 use Rattle.discrete_events.specs.World.{World}
 
 -- one more event is handled
@@ -18,7 +18,7 @@ sends courier time to after number = (record { time = time; to = to; from = cour
 abbrev pub courier_reacts : ℕ → Courier → Event ℕ → Courier × List (Message ℕ)
 courier_reacts delay courier Step =
     let time = unwrap_or courier.next 0 in
-    let key : Key = record { time = time; to = courier.number; from = 2; sequence = 0 } in (
+    let key = key_of_step 2 courier.number time in (
       record (handles courier key) { next = Some (time + 2); sent = courier.sent + 2 },
       sends courier (time + 1) courier.number 0 courier.count
           ∷ sends courier (time + delay) (1 - courier.number) 1 (courier.count + 1) ∷ [],

@@ -32,5 +32,8 @@ pub record Simulation (S X : Type 0) : Type 0 where
   pub react : S → Event X → S × List (Message X)
 
 -- A step has the number of nodes for its source, so a message of the same time and node goes before it.
+abbrev pub key_of_step : ℕ → ℕ → ℕ → Key
+key_of_step nodes number time = record { time = time; to = number; from = nodes; sequence = 0 }
+
 abbrev pub step_key : {S X : Type 0} → Simulation S X → S → ℕ → Key
-step_key sim node time = record { time = time; to = sim.number node; from = sim.nodes; sequence = 0 }
+step_key sim node time = key_of_step sim.nodes (sim.number node) time
