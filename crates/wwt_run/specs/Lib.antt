@@ -1,5 +1,4 @@
 pub mod World
-pub mod Serial
 pub mod Outcome
 pub mod Alone
 pub mod Report

@@ -3,10 +3,10 @@ use Rattle.std.specs.Prelude.{ℕ, ◌+◌, List, [], ◌∷◌, ◌++◌, lengt
 use Rattle.wt_params.specs.declared.parts.MachineParts.{MachineParts}
 use Rattle.wt_params.specs.Machine.{block_address}
 use Rattle.node.specs.declared.counters.Counters.{Counters}
-use Rattle.node.specs.declared.mode.Cause.{Cause}
-use Rattle.node.specs.declared.mode.Cause.TheVariants.{Exit, Illegal, Fetch, Target, Address, Misaligned, Call, Break}
-use Rattle.node.specs.declared.mode.Mode.{Mode}
-use Rattle.node.specs.declared.mode.Mode.TheVariants.{Running, Waiting, InBarrier, Stopped}
+use Rattle.wt_proto.specs.declared.mode.Cause.{Cause}
+use Rattle.wt_proto.specs.declared.mode.Cause.TheVariants.{Exit, Illegal, Fetch, Target, Address, Misaligned, Call, Break}
+use Rattle.wt_proto.specs.declared.mode.Mode.{Mode}
+use Rattle.wt_proto.specs.declared.mode.Mode.TheVariants.{Running, Waiting, InBarrier, Stopped}
 use Rattle.node.specs.NodeState.{NodeState}
 use Rattle.node.specs.Event.{step_time}
 use Rattle.wwt_run.specs.declared.head.Outcome.{Outcome}

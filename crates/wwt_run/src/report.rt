@@ -6,9 +6,10 @@ ghost use Rattle.wwt_run.specs.Report.{outcome_text_of, cause_text, state_text, 
 use crate::head::{Head, Outcome};
 use wt_text::Line;
 use crate::totals::{Totals, totals_of_one};
-use node::{Cause, Counters, Mode, Node};
+use node::{Counters, Node};
 use std::alloc::Global;
 use wt_params::{Machine, NoMemory};
+use wt_proto::{Cause, Mode};
 
 /// The lines of the report of a machine of one node.
 pub fn report_alone(
