@@ -55,7 +55,7 @@ impl Directory {
         requires inside { offset + length bytes.now ≤ length (block_of self.old block).memory }
         ensures { self.new ≡ with_block block
             (with_memory (splice (block_of self.old block).memory offset (offset + length bytes.now) bytes.now)
-                (block_of self.old block))
+            (block_of self.old block))
             self.old }
     {
         let place = self.place(block);
@@ -82,12 +82,7 @@ impl Directory {
     }
 
     /// Handles a message from a node, by the directory's tables. What is to be sent is added to `out`.
-    pub fn arrive(
-        &mut self,
-        from: u32,
-        msg: &Msg,
-        out: &mut Sends,
-    ) -> Result<DirAct, NoMemory>
+    pub fn arrive(&mut self, from: u32, msg: &Msg, out: &mut Sends) -> Result<DirAct, NoMemory>
         requires here { IsHome self.old msg.now.block }
         requires count { CanCount (block_of self.old msg.now.block).entry.state }
         ensures home { OnOk result (self.new ≡ with_block msg.now.block (row_of self.old from msg.now).home self.old) }

@@ -7,3 +7,6 @@ mod home;
 
 pub use directory::Directory;
 pub use home::{DirAct, HomeBlock, Place};
+
+#[cfg(test)]
+mod tests;
