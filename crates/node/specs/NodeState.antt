@@ -1,5 +1,5 @@
 -- What a node is at a moment. Own.
-use Rattle.std.specs.Prelude.{◌≡◌, ℕ, ◌+◌, ◌%◌, ◌^◌, ◌<◌, ◌≤◌, ◌==◌, [], Bool, List, length, replicate, slice_set, Option, None}
+use Rattle.std.specs.Prelude.{◌≡◌, ℕ, ◌+◌, ◌%◌, ◌^◌, ◌<◌, ◌≤◌, [], Bool, List, length, replicate, slice_set, Option, None}
 use Rattle.wt_params.specs.declared.parts.MachineParts.{MachineParts}
 use Rattle.wt_params.specs.Machine.{IsMachine}
 use Rattle.priv_mem.specs.Memory.{overwritten}
@@ -35,10 +35,6 @@ pub record NodeModel : Type 0 where
 -- the events that a node has handled
 abbrev pub events_of : NodeState → ℕ
 events_of node = node.counters.steps + node.counters.messages
-
--- a spent node handles no more events
-abbrev pub is_spent : MachineParts → NodeState → Bool
-is_spent machine node = events_of node == machine.event_limit
 
 -- what every event keeps
 pub record IsNode (machine : MachineParts) (node : NodeState) : Type 0 where

@@ -1,9 +1,10 @@
 ghost use Rattle.std.specs.Prelude.{◌≡◌, []};
 ghost use Rattle.wt_params.specs.Machine.{flat_machine};
+ghost use Rattle.discrete_events.specs.Serial.{serial};
+ghost use Rattle.node.specs.Event.{wind_tunnel};
 ghost use Rattle.wwt_run.specs.Alone.{world_of};
 ghost use Rattle.wwt_run.specs.Case.{output_of_run, status_of_run};
 ghost use Rattle.wwt_run.specs.Examples.{print_a, print_a_report, empty_report, endless_jump, after_steps};
-ghost use Rattle.wwt_run.specs.Serial.{serial};
 ghost use Rattle.wwt_run.specs.World.{start_flat};
 
 use super::*;
@@ -51,7 +52,7 @@ fn definitions_give_the_worked_reports()
     ensures print_a_status { status_of_run print_a ≡ Status.Done }
     ensures empty { output_of_run [] ≡ empty_report }
     ensures empty_status { status_of_run [] ≡ Status.NodeFault }
-    ensures jump { serial flat_machine 3 (start_flat flat_machine endless_jump) ≡ world_of (after_steps endless_jump 3) 3 3 }
+    ensures jump { serial (wind_tunnel flat_machine) 3 (start_flat flat_machine endless_jump) ≡ world_of (after_steps endless_jump 3) 3 3 }
     ensures jump_place { (after_steps endless_jump 3).pc ≡ 0 }
     ensures jump_time { (after_steps endless_jump 3).ready ≡ 3 }
 {}

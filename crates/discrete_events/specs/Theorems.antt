@@ -1,0 +1,93 @@
+-- What is proved of every simulation that keeps the laws. Own.
+use Rattle.std.specs.Prelude.{◌≡◌, ◌≢◌, ℕ, ◌+◌, ◌≤◌, ◌<◌, Some, None}
+use Rattle.std.specs.declared.cmp.Ordering.TheVariants.{Less}
+use Rattle.std.specs.FinMap.{FinMap, get, insert}
+use Rattle.wt_proto.specs.declared.key.Key.{Key}
+use Rattle.wt_proto.specs.KeyOrder.{key_cmp}
+use Rattle.discrete_events.specs.Simulation.{Simulation, Event, Message}
+use Rattle.discrete_events.specs.World.{World, events_in, least}
+use Rattle.discrete_events.specs.Serial.{serial_step, serial, final}
+use Rattle.discrete_events.specs.Round.{FreeRun, local, round, quantum_end, rounds}
+use Rattle.discrete_events.specs.Laws.{IsIn, IsAfter, IsStation, IsStart, IsWorld, IsConservative, IsBetweenQuanta, IsSerialFrom}
+
+-- a run with one more message left pending
+abbrev pub with_pending : {S X : Type 0} → Message X → FreeRun S X → FreeRun S X
+with_pending message run = record run { pending = insert run.pending message.0 message.1 }
+
+-- A late message passes through: the run of a node that has it is the run without it, with the message put back.
+abbrev pub LateMessagePasses : {S X : Type 0} → Simulation S X → (S → Type 0) → (Message X → Type 0) → Type 0
+LateMessagePasses {S} {X} sim IsSound Fits =
+    (until : ℕ) (node : S) (pending : FinMap key_cmp X) (message : Message X) →
+    until ≤ sim.budget → IsStation sim IsSound Fits node pending →
+    until ≤ message.0.time → (message.0.from ≢ sim.number node) →
+    local sim until node (insert pending message.0 message.1) ≡ with_pending message (local sim until node pending)
+
+-- the same nodes and pending messages
+pub record IsAlike {S X : Type 0} (one other : World S X) : Type 0 where
+  pub nodes : one.nodes ≡ other.nodes
+  pub pending : one.pending ≡ other.pending
+
+-- The least event peels off: a round that ends no later than the lookahead allows is the round of the world after it.
+abbrev pub LeastEventPeels : {S X : Type 0} → Simulation S X → (S → Type 0) → (Message X → Type 0) → Type 0
+LeastEventPeels {S} {X} sim IsSound Fits =
+    (until : ℕ) (world : World S X) (key : Key) (event : Event X) →
+    IsWorld sim IsSound Fits world → least (events_in sim world) ≡ Some (key, event) →
+    key.time < until → until ≤ sim.budget → until ≤ key.time + sim.lookahead →
+    IsAlike (round sim until world) (round sim until (serial_step sim world))
+
+-- A round is the serial run: nodes, pending messages, kept end and count, by as many steps as events were handled;
+-- and no event is left below its end.
+pub record IsSerialRound {S X : Type 0} (sim : Simulation S X) (before after : World S X) : Type 0 where
+  pub serial : IsSerialFrom sim before after
+  pub none_left : IsBetweenQuanta sim after
+
+abbrev pub RoundIsSerial : {S X : Type 0} → Simulation S X → (S → Type 0) → (Message X → Type 0) → Type 0
+RoundIsSerial {S} {X} sim IsSound Fits =
+    IsConservative sim → (world : World S X) (key : Key) (event : Event X) →
+    IsWorld sim IsSound Fits world → IsBetweenQuanta sim world → least (events_in sim world) ≡ Some (key, event) →
+    IsSerialRound sim world (round sim (quantum_end sim key.time) world)
+
+-- And so are many.
+abbrev pub RoundsAreSerial : {S X : Type 0} → Simulation S X → (S → Type 0) → (Message X → Type 0) → Type 0
+RoundsAreSerial {S} {X} sim IsSound Fits =
+    IsConservative sim → (n : ℕ) (world : World S X) →
+    IsWorld sim IsSound Fits world → IsBetweenQuanta sim world → IsSerialRound sim world (rounds sim n world)
+
+-- The final world has no event, comes by as many steps as events were handled, and is what any run without events came to.
+pub record IsFinal {S X : Type 0} (sim : Simulation S X) (world : World S X) : Type 0 where
+  pub none_left : (key : Key) (event : Event X) → IsIn (key, event) (events_in sim (final sim world)) → ⊥
+  pub counted : IsSerialFrom sim world (final sim world)
+  pub reached : (after : World S X) → IsSerialFrom sim world after → least (events_in sim after) ≡ None → final sim world ≡ after
+
+abbrev pub SerialRunEnds : {S X : Type 0} → Simulation S X → (S → Type 0) → (Message X → Type 0) → Type 0
+SerialRunEnds {S} {X} sim IsSound Fits = (world : World S X) → IsWorld sim IsSound Fits world → IsFinal sim world
+
+-- No past: along the serial run, and so after any round, the key of each message is above the last key of its node.
+pub record HasNoPast {S X : Type 0} (sim : Simulation S X) (IsSound : S → Type 0) (Fits : Message X → Type 0) (world : World S X) : Type 0 where
+  pub is_world : IsWorld sim IsSound Fits world
+  pub no_past : (node : S) (key : Key) (body : X) → IsIn node world.nodes → get world.pending key ≡ Some body →
+      key.to ≡ sim.number node → IsAfter (sim.last node) key
+
+abbrev pub NoPast : {S X : Type 0} → Simulation S X → (S → Type 0) → (Message X → Type 0) → Type 0
+NoPast {S} {X} sim IsSound Fits =
+    (before after : World S X) → IsWorld sim IsSound Fits before → IsSerialFrom sim before after →
+    HasNoPast sim IsSound Fits after
+
+-- Nor has a node that runs on its own.
+abbrev pub NoPastOfRun : {S X : Type 0} → Simulation S X → (S → Type 0) → (Message X → Type 0) → Type 0
+NoPastOfRun {S} {X} sim IsSound Fits =
+    (until : ℕ) (node : S) (pending : FinMap key_cmp X) → until ≤ sim.budget → IsStation sim IsSound Fits node pending →
+    IsStation sim IsSound Fits (local sim until node pending).node (local sim until node pending).pending
+
+-- The keys of the events handled rise strictly along the serial run.
+abbrev pub KeysRise : {S X : Type 0} → Simulation S X → (S → Type 0) → (Message X → Type 0) → Type 0
+KeysRise {S} {X} sim IsSound Fits =
+    (world : World S X) (earlier later : ℕ) (one other : Key × Event X) →
+    IsWorld sim IsSound Fits world → earlier < later →
+    least (events_in sim (serial sim earlier world)) ≡ Some one → least (events_in sim (serial sim later world)) ≡ Some other →
+    key_cmp one.0 other.0 ≡ Less
+
+-- A start is a world between quanta.
+abbrev pub StartIsWorld : {S X : Type 0} → Simulation S X → (S → Type 0) → (Message X → Type 0) → Type 0
+StartIsWorld {S} {X} sim IsSound Fits =
+    (world : World S X) → IsStart sim IsSound world → IsWorld sim IsSound Fits world × IsBetweenQuanta sim world
