@@ -4,6 +4,7 @@
 //! ranges. [`NoMemory`] is the answer for want of memory that all crates share.
 #![tactic(auto)]
 
+mod fields;
 mod machine;
 mod memory;
 mod parts;

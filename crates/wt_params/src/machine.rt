@@ -1,7 +1,8 @@
-ghost use Rattle.std.specs.Prelude.{◌≡◌, ℕ, ◌+◌, ◌*◌, ◌%◌, ◌^◌, ◌<◌, ◌≤◌};
-ghost use Rattle.wt_params.specs.Machine.{InRange, IsMachine, IsPrivateSize, IsBlockSize, AreCosts, flat_machine, home_of, shared_block};
+ghost use Rattle.std.specs.Prelude.{◌≡◌, ◌↔◌, IsOk, ℕ, ◌+◌, ◌*◌, ◌%◌, ◌^◌, ◌<◌, ◌≤◌};
+ghost use Rattle.wt_params.specs.Machine.{InRange, IsMachine, IsPrivateSize, IsBlockSize, AreCosts, flat_machine, home_of, block_address, shared_block};
+ghost use Rattle.wt_params.specs.Fields.{machine_of};
 
-use crate::parts::{CostParts, MachineParts};
+use crate::parts::{CostParts, MachineParts, ParamFault};
 use std::marker::Model;
 
 /// Where shared memory begins in every node's address space.
@@ -27,6 +28,18 @@ impl Model for Machine {
 }
 
 impl Machine {
+    /// The machine of these numbers. Refused exactly where a number is outside its range: by the first such
+    /// field, in order, with its number. Of `ways` the product with `sets` counts, and `quantum` ends at `latency`.
+    pub fn new(parts: MachineParts) -> Result<Machine, ParamFault>
+        ensures exact { result ≡ machine_of parts }
+        ensures ranges { IsOk result ↔ IsMachine parts }
+    {
+        match parts.fault() {
+            Some(fault) => Err(fault),
+            None => Ok(Machine { parts }),
+        }
+    }
+
     /// The machine of one node that runs flat bytes: 1 MiB of private memory, no shared memory, a budget of a
     /// million cycles, and every cost 1.
     pub fn flat() -> Machine
@@ -173,6 +186,14 @@ impl Machine {
         ensures node { result < self.now.nodes }
     {
         (block as u64 % self.parts.nodes) as u32
+    }
+
+    /// The address of a block's first byte.
+    pub fn block_address(&self, block: u32) -> u32
+        requires { block < self.now.blocks }
+        ensures { result ≡ block_address self.now block }
+    {
+        SHARED_BASE + block * self.parts.block_bytes as u32
     }
 
     /// The block of shared memory that an address lies in. None exactly outside shared memory.
