@@ -1,0 +1,4 @@
+mod TableLaws
+mod Refusals
+mod FaultLaws
+mod TwoParts
