@@ -21,6 +21,9 @@ module _ {A : Type 0} where
   refusal_of_rest first rest fault none (inl memory) = inl memory
   refusal_of_rest first rest fault none (inr is) = inr (ap (λ f. unless f rest) none ∙ is)
 
+  pub value_of_rest : (first : Option MachineFault) (rest answer : Result A MachineFault) → first ≡ None → rest ≡ answer → unless first rest ≡ answer
+  value_of_rest first rest answer none is = ap (λ f. unless f rest) none ∙ is
+
 module _ {A B : Type 0} where
   pub refusal_of_step : (first : Result A MachineFault) (next : A → Result B MachineFault) (fault : MachineFault) → IsRefusalOf first fault → IsRefusalOf (and_then first next) fault
   refusal_of_step first next fault (inl memory) = inl memory
@@ -29,6 +32,10 @@ module _ {A B : Type 0} where
   pub refusal_of_next : (first : Result A MachineFault) (next : A → Result B MachineFault) (value : A) (fault : MachineFault) → first ≡ Ok value → IsRefusalOf (next value) fault → IsRefusalOf (and_then first next) fault
   refusal_of_next first next value fault ok (inl memory) = inl memory
   refusal_of_next first next value fault ok (inr is) = inr (ap (λ r. and_then r next) ok ∙ is)
+
+  -- a step's value goes into the next one
+  pub value_of_next : (first : Result A MachineFault) (next : A → Result B MachineFault) (value : A) (answer : Result B MachineFault) → first ≡ Ok value → next value ≡ answer → and_then first next ≡ answer
+  value_of_next first next value answer ok is = ap (λ r. and_then r next) ok ∙ is
 
 -- the same for what is wanted by another name
 pub same_fault : (first second : Option MachineFault) (fault : MachineFault) → first ≡ second → IsFaultOf first fault → IsFaultOf second fault

@@ -2,3 +2,5 @@ mod TableLaws
 mod Refusals
 mod FaultLaws
 mod TwoParts
+mod TextLaws
+mod ImageLaws

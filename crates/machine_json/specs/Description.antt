@@ -19,6 +19,11 @@ use Rattle.machine_json.specs.Images.{images_of}
 unfoldable pub data_of : List ℕ → Option Data
 data_of bytes = if is_utf8 bytes then read bytes else None
 
+-- a text that says nothing
+abbrev pub data_fault : Option Data → Option MachineFault
+data_fault None = Some Syntax
+data_fault (Some description) = None
+
 -- a description is an object of nothing but what stands in the table
 abbrev pub keys_in_fault : Option Members → Option MachineFault
 keys_in_fault None = Some NotObject

@@ -22,8 +22,11 @@ pub(crate) const COSTS: &str = "costs";
 pub(crate) const IMAGES: &str = "images";
 /// The members of an image.
 pub(crate) const HEX: &str = "hex";
+
 pub(crate) const FILE: &str = "file";
+
 pub(crate) const FORMAT: &str = "format";
+
 pub(crate) const AT: &str = "at";
 
 /// How many fields stand in the description itself; the rest are costs.

@@ -19,9 +19,9 @@ pub returns-in_ok-cost_key-in-Some-unknown_in-clause-fault :
 unfolding costs_fault
 returns-in_ok-cost_key-in-Some-unknown_in-clause-fault c =
     inr (
-      ap costs_at (sym c.in-Some.ensures) ∙ ap members_fault (sym c.in-Some-as_object.ensures)
-      ∙ ap (option_map (λ name. Unknown (cost_prefix ++ name))) (sym c.in-Some-unknown_in.ensures)
-      ∙ ap (λ key. Some (Unknown key)) (sym c.in_ok-cost_key-in-Some-unknown_in.ensures)
+    ap costs_at (sym c.in-Some.ensures) ∙ ap members_fault (sym c.in-Some-as_object.ensures)
+    ∙ ap (option_map (λ name. Unknown (cost_prefix ++ name))) (sym c.in-Some-unknown_in.ensures)
+    ∙ ap (λ key. Some (Unknown key)) (sym c.in_ok-cost_key-in-Some-unknown_in.ensures)
     )
 
 pub returns-in-None-clause-ok : goal.returns-in-None-clause-ok

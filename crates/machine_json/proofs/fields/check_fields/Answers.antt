@@ -16,9 +16,9 @@ returns-in-Some-clause-fault c =
     let i = c.loop-field.field-index in
     let within : i < length fields = omega arith in
     inr (
-      c.loop-field.invariant.rest ∙ ap (fields_fault description parts) (drop_more fields i Nodes within)
-      ∙ refusal_here parts description (get_or fields i Nodes) (drop (i + 1) fields) c.in_ok-check_number.ensures.ok c.in-Some.value (sym c.requires.made ∙ c.in-Some.ensures.refused)
-      ∙ ap (λ key. Some (Range key c.in-Some.value)) (sym (c.in_ok-key.ensures ∙ c.key.ensures))
+    c.loop-field.invariant.rest ∙ ap (fields_fault description parts) (drop_more fields i Nodes within)
+    ∙ refusal_here parts description (get_or fields i Nodes) (drop (i + 1) fields) c.in_ok-check_number.ensures.ok c.in-Some.value (sym c.requires.made ∙ c.in-Some.ensures.refused)
+    ∙ ap (λ key. Some (Range key c.in-Some.value)) (sym (c.in_ok-key.ensures ∙ c.key.ensures))
     )
 
 pub loop-field-preserved : goal.loop-field-preserved

@@ -42,10 +42,10 @@ pub returns-then-number-ne1-clause-fault : goal.returns-then-number-ne1-clause-f
 unfolding version_fault
 returns-then-number-ne1-clause-fault c =
     inr (
-      ap tested (sym c.get-version.ensures)
-      ∙ second_test _ c.whole_number.result c.in_ok-check_kind.ensures.ok c.whole_number.ensures
-      ∙ is_other c.whole_number.result c.unwrap_or-number.result c.unwrap_or-number.ensures c.if-number-ne1.true
-      ∙ ap (λ key. Some (Range key c.unwrap_or-number.result)) (sym c.in_ok-key.ensures)
+    ap tested (sym c.get-version.ensures)
+    ∙ second_test _ c.whole_number.result c.in_ok-check_kind.ensures.ok c.whole_number.ensures
+    ∙ is_other c.whole_number.result c.unwrap_or-number.result c.unwrap_or-number.ensures c.if-number-ne1.true
+    ∙ ap (λ key. Some (Range key c.unwrap_or-number.result)) (sym c.in_ok-key.ensures)
     )
 
 pub returns-clause-ok : goal.returns-clause-ok
