@@ -1,5 +1,5 @@
 -- What is proved of every simulation that keeps the laws. Own.
-use Rattle.std.specs.Prelude.{◌≡◌, ◌≢◌, ℕ, ◌+◌, ◌≤◌, ◌<◌, Some, None}
+use Rattle.std.specs.Prelude.{◌≡◌, ◌≢◌, ℕ, ◌+◌, ◌≤◌, ◌<◌, Bool, List, [], ◌∷◌, map, Some, None, if◌then◌else◌}
 use Rattle.std.specs.declared.cmp.Ordering.TheVariants.{Less}
 use Rattle.std.specs.FinMap.{FinMap, get, insert}
 use Rattle.wt_proto.specs.declared.key.Key.{Key}
@@ -8,7 +8,8 @@ use Rattle.discrete_events.specs.Simulation.{Simulation, Event, Message}
 use Rattle.discrete_events.specs.World.{World, events_in, least}
 use Rattle.discrete_events.specs.Serial.{serial_step, serial, final}
 use Rattle.discrete_events.specs.Round.{FreeRun, local, round, quantum_end, rounds}
-use Rattle.discrete_events.specs.Laws.{IsIn, IsAfter, IsStation, IsStart, IsWorld, IsConservative, IsBetweenQuanta, IsSerialFrom}
+use Rattle.discrete_events.specs.Core.{Station, Core, CoreStep, IsAtRest, world_of_core, opening, core_of, core_run, AreEnabled}
+use Rattle.discrete_events.specs.Laws.{IsIn, IsAfter, IsNumbered, IsStation, IsStart, IsWorld, IsConservative, IsBetweenQuanta, IsSerialFrom}
 
 -- a run with one more message left pending
 abbrev pub with_pending : {S X : Type 0} → Message X → FreeRun S X → FreeRun S X
@@ -91,3 +92,56 @@ KeysRise {S} {X} sim IsSound Fits =
 abbrev pub StartIsWorld : {S X : Type 0} → Simulation S X → (S → Type 0) → (Message X → Type 0) → Type 0
 StartIsWorld {S} {X} sim IsSound Fits =
     (world : World S X) → IsStart sim IsSound world → IsWorld sim IsSound Fits world × IsBetweenQuanta sim world
+
+-- each node of the one list or, where it is marked, of the other
+abbrev pub picked : {S X : Type 0} → Simulation S X → (ℕ → Bool) → List S → List S → List S
+picked sim done [] others = []
+picked sim done (node ∷ nodes) [] = []
+picked sim done (node ∷ nodes) (other ∷ others) = (if done (sim.number node) then other else node) ∷ picked sim done nodes others
+
+-- A core in the middle of a quantum: a node that isn't done is as in the world in which the quantum was opened, one that
+-- is done as in the world in which it ends; and what is under way comes no earlier than that end, and after all that its
+-- node has handled.
+pub record IsAmidQuantum {S X : Type 0} (sim : Simulation S X) (begun : World S X) (until : ℕ) (core : Core S X) : Type 0 where
+  pub ended : World S X
+  pub serial : IsSerialFrom sim begun ended
+  pub ends : ended.kept_end ≡ until
+  pub none_left : IsBetweenQuanta sim ended
+  pub nodes : map (λ station. station.node) core.stations ≡ picked sim core.done begun.nodes ended.nodes
+  pub late : (from to : ℕ) (message : Message X) → IsIn message (core.out from to) → until ≤ message.0.time
+  pub no_past : (from to : ℕ) (message : Message X) (station : Station S X) → IsIn message (core.out from to) →
+      IsIn station core.stations → sim.number station.node ≡ to → IsAfter (sim.last station.node) message.0
+
+-- A core after some steps from the core of a world. At rest it is the core of a world of the serial run, in which no event
+-- is below the kept end.
+pub record IsAmid {S X : Type 0} (sim : Simulation S X) (world : World S X) (core : Core S X) : Type 0 where
+  pub begun : World S X
+  pub serial : IsSerialFrom sim world begun
+  pub none_left : IsBetweenQuanta sim begun
+  pub kept_end : begun.kept_end ≡ core.kept_end
+  pub until : core.until ≡ opening sim begun
+  pub rest : IsAtRest core → core ≡ core_of sim begun
+  pub ends : core.until ≡ None → begun ≡ final sim world
+  pub amid : (until : ℕ) → core.until ≡ Some until → IsAmidQuantum sim begun until core
+
+-- Every interleaving of quanta, deposits and turns comes to the serial run.
+abbrev pub EveryInterleaving : {S X : Type 0} → Simulation S X → (S → Type 0) → (Message X → Type 0) → Type 0
+EveryInterleaving {S} {X} sim IsSound Fits =
+    IsConservative sim → (world : World S X) (steps : List CoreStep) →
+    IsWorld sim IsSound Fits world → IsBetweenQuanta sim world → AreEnabled sim (core_of sim world) steps →
+    IsAmid sim world (core_run sim steps (core_of sim world))
+
+-- A core at rest, whose stations have messages to themselves alone and ran up to the kept end, and whose quantum is that
+-- of its world.
+pub record IsResting {S X : Type 0} (sim : Simulation S X) (core : Core S X) : Type 0 where
+  pub rest : IsAtRest core
+  pub numbered : IsNumbered sim 0 (map (λ station. station.node) core.stations)
+  pub own : (station : Station S X) (key : Key) (body : X) → IsIn station core.stations → get station.pending key ≡ Some body →
+      key.to ≡ sim.number station.node
+  pub ran : (station : Station S X) → IsIn station core.stations → station.until ≡ core.kept_end
+  pub until : core.until ≡ opening sim (world_of_core core)
+
+-- Stands for: the core of a world has that world, and a core at rest is the core of its world.
+pub record StandsFor {S X : Type 0} (sim : Simulation S X) (IsSound : S → Type 0) (Fits : Message X → Type 0) : Type 0 where
+  pub world : (world : World S X) → IsWorld sim IsSound Fits world → world_of_core (core_of sim world) ≡ world
+  pub core : (core : Core S X) → IsResting sim core → core ≡ core_of sim (world_of_core core)
