@@ -1,4 +1,5 @@
--- The quanta of the nodes, the deposits of their messages and the turns to the next quantum, one after the other in any order. Own.
+-- The quanta of the nodes, the deposits of their messages and the turns to the next quantum, one
+-- after the other in any order. Own.
 use Rattle.std.specs.Prelude.{◌≡◌, ◌≢◌, ℕ, ◌+◌, ◌<◌, ◌==◌, ◌&&◌, ◌||◌, Bool, true, false, List, [], ◌∷◌, ◌++◌, map, flat_map, take, drop, Option, Some, None, option_map, if◌then◌else◌}
 use Rattle.std.specs.List.{filter}
 use Rattle.std.specs.FinMap.{FinMap}
@@ -20,8 +21,8 @@ run_to sim until station =
     let run = local sim until station.node station.pending in
     (record { node = run.node; pending = run.pending; until = until }, run.outs)
 
--- The stations, the quanta so far, the end of the quantum that is open, the nodes that are done with it, what a node sent
--- to another and hasn't deposited yet, and what was deposited for a node.
+-- The stations, the quanta so far, the end of the quantum that is open, the nodes that are done
+-- with it, what a node sent to another and hasn't deposited yet, and what was deposited for a node.
 pub record Core (S X : Type 0) : Type 0 where
   pub stations : List (Station S X)
   pub kept_end : ℕ
@@ -44,8 +45,8 @@ world_of_core core = record {
 abbrev pub opening : {S X : Type 0} → Simulation S X → World S X → Option ℕ
 opening sim world = option_map (λ event. quantum_end sim event.0.time) (least (events_in sim world))
 
--- The core at rest of a world: each node has its messages, a quantum is open where there is an event, nobody is done,
--- and nothing was sent or deposited.
+-- The core at rest of a world: each node has its messages, a quantum is open where there is an
+-- event, nobody is done, and nothing was sent or deposited.
 abbrev pub core_of : {S X : Type 0} → Simulation S X → World S X → Core S X
 core_of sim world = record {
   stations = map (λ node. record { node = node; pending = to_node world.pending (sim.number node); until = world.kept_end }) world.nodes;
@@ -71,8 +72,8 @@ pub data CoreStep : Type 0 where
 abbrev pub IsOpen : {S X : Type 0} → Core S X → Type 0
 IsOpen core = core.until ≢ None
 
--- A quantum is a node's that isn't done. A message is deposited by a node that is done. A turn comes when all are done and
--- all their messages are deposited.
+-- A quantum is a node's that isn't done. A message is deposited by a node that is done. A turn
+-- comes when all are done and all their messages are deposited.
 abbrev pub IsEnabled : {S X : Type 0} → Simulation S X → Core S X → CoreStep → Type 0
 IsEnabled sim core (Quantum node) = IsOpen core × (node < sim.nodes) × (core.done node ≡ false)
 IsEnabled sim core (Deposit from to) =

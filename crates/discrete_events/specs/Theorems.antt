@@ -15,7 +15,8 @@ use Rattle.discrete_events.specs.Laws.{IsIn, IsAfter, IsNumbered, IsStation, IsS
 abbrev pub with_pending : {S X : Type 0} → Message X → FreeRun S X → FreeRun S X
 with_pending message run = record run { pending = insert run.pending message.0 message.1 }
 
--- A late message passes through: the run of a node that has it is the run without it, with the message put back.
+-- A late message passes through: the run of a node that has it is the run without it, with the
+-- message put back.
 abbrev pub LateMessagePasses : {S X : Type 0} → Simulation S X → (S → Type 0) → (Message X → Type 0) → Type 0
 LateMessagePasses {S} {X} sim IsSound Fits =
     (until : ℕ) (node : S) (pending : FinMap key_cmp X) (message : Message X) →
@@ -28,7 +29,8 @@ pub record IsAlike {S X : Type 0} (one other : World S X) : Type 0 where
   pub nodes : one.nodes ≡ other.nodes
   pub pending : one.pending ≡ other.pending
 
--- The least event peels off: a round that ends no later than the lookahead allows is the round of the world after it.
+-- The least event peels off: a round that ends no later than the lookahead allows is the round of
+-- the world after it.
 abbrev pub LeastEventPeels : {S X : Type 0} → Simulation S X → (S → Type 0) → (Message X → Type 0) → Type 0
 LeastEventPeels {S} {X} sim IsSound Fits =
     (until : ℕ) (world : World S X) (key : Key) (event : Event X) →
@@ -36,8 +38,8 @@ LeastEventPeels {S} {X} sim IsSound Fits =
     key.time < until → until ≤ sim.budget → until ≤ key.time + sim.lookahead →
     IsAlike (round sim until world) (round sim until (serial_step sim world))
 
--- A round is the serial run: nodes, pending messages, kept end and count, by as many steps as events were handled;
--- and no event is left below its end.
+-- A round is the serial run: nodes, pending messages, kept end and count, by as many steps as
+-- events were handled; and no event is left below its end.
 pub record IsSerialRound {S X : Type 0} (sim : Simulation S X) (before after : World S X) : Type 0 where
   pub serial : IsSerialFrom sim before after
   pub none_left : IsBetweenQuanta sim after
@@ -54,7 +56,8 @@ RoundsAreSerial {S} {X} sim IsSound Fits =
     IsConservative sim → (n : ℕ) (world : World S X) →
     IsWorld sim IsSound Fits world → IsBetweenQuanta sim world → IsSerialRound sim world (rounds sim n world)
 
--- The final world has no event, comes by as many steps as events were handled, and is what any run without events came to.
+-- The final world has no event, comes by as many steps as events were handled, and is what any run
+-- without events came to.
 pub record IsFinal {S X : Type 0} (sim : Simulation S X) (world : World S X) : Type 0 where
   pub none_left : (key : Key) (event : Event X) → IsIn (key, event) (events_in sim (final sim world)) → ⊥
   pub counted : IsSerialFrom sim world (final sim world)
@@ -63,7 +66,8 @@ pub record IsFinal {S X : Type 0} (sim : Simulation S X) (world : World S X) : T
 abbrev pub SerialRunEnds : {S X : Type 0} → Simulation S X → (S → Type 0) → (Message X → Type 0) → Type 0
 SerialRunEnds {S} {X} sim IsSound Fits = (world : World S X) → IsWorld sim IsSound Fits world → IsFinal sim world
 
--- No past: along the serial run, and so after any round, the key of each message is above the last key of its node.
+-- No past: along the serial run, and so after any round, the key of each message is above the last
+-- key of its node.
 pub record HasNoPast {S X : Type 0} (sim : Simulation S X) (IsSound : S → Type 0) (Fits : Message X → Type 0) (world : World S X) : Type 0 where
   pub is_world : IsWorld sim IsSound Fits world
   pub no_past : (node : S) (key : Key) (body : X) → IsIn node world.nodes → get world.pending key ≡ Some body →
@@ -99,9 +103,9 @@ picked sim done [] others = []
 picked sim done (node ∷ nodes) [] = []
 picked sim done (node ∷ nodes) (other ∷ others) = (if done (sim.number node) then other else node) ∷ picked sim done nodes others
 
--- A core in the middle of a quantum: a node that isn't done is as in the world in which the quantum was opened, one that
--- is done as in the world in which it ends; and what is under way comes no earlier than that end, and after all that its
--- node has handled.
+-- A core in the middle of a quantum: a node that isn't done is as in the world in which the quantum
+-- was opened, one that is done as in the world in which it ends; and what is under way comes no
+-- earlier than that end, and after all that its node has handled.
 pub record IsAmidQuantum {S X : Type 0} (sim : Simulation S X) (begun : World S X) (until : ℕ) (core : Core S X) : Type 0 where
   pub ended : World S X
   pub serial : IsSerialFrom sim begun ended
@@ -112,8 +116,8 @@ pub record IsAmidQuantum {S X : Type 0} (sim : Simulation S X) (begun : World S 
   pub no_past : (from to : ℕ) (message : Message X) (station : Station S X) → IsIn message (core.out from to) →
       IsIn station core.stations → sim.number station.node ≡ to → IsAfter (sim.last station.node) message.0
 
--- A core after some steps from the core of a world. At rest it is the core of a world of the serial run, in which no event
--- is below the kept end.
+-- A core after some steps from the core of a world. At rest it is the core of a world of the serial
+-- run, in which no event is below the kept end.
 pub record IsAmid {S X : Type 0} (sim : Simulation S X) (world : World S X) (core : Core S X) : Type 0 where
   pub begun : World S X
   pub serial : IsSerialFrom sim world begun
@@ -131,8 +135,8 @@ EveryInterleaving {S} {X} sim IsSound Fits =
     IsWorld sim IsSound Fits world → IsBetweenQuanta sim world → AreEnabled sim (core_of sim world) steps →
     IsAmid sim world (core_run sim steps (core_of sim world))
 
--- A core at rest, whose stations have messages to themselves alone and ran up to the kept end, and whose quantum is that
--- of its world.
+-- A core at rest, whose stations have messages to themselves alone and ran up to the kept end, and
+-- whose quantum is that of its world.
 pub record IsResting {S X : Type 0} (sim : Simulation S X) (core : Core S X) : Type 0 where
   pub rest : IsAtRest core
   pub numbered : IsNumbered sim 0 (map (λ station. station.node) core.stations)
