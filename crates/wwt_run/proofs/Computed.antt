@@ -14,7 +14,7 @@ use Rattle.wwt_run.specs.Alone.{world_of}
 use Rattle.wwt_run.specs.Case.{out_of, output_of_run, status_of_run}
 use Rattle.wwt_run.specs.Report.{report}
 use Rattle.wwt_run.specs.Status.{status_of_world, status_after_of}
-use Rattle.wwt_run.specs.Text.{named}
+use Rattle.wt_text.proofs.OnLiterals.{text_on_literals}
 use Rattle.wwt_run.specs.Examples.{print_a, endless_jump, after_steps, print_a_report, empty_report}
 use Rattle.wwt_run.proofs.AloneLemmas.{Progress, begun, gone_on, ended, head_of-alone, outcome_of-alone}
 
@@ -70,7 +70,7 @@ unfolding decode_of instruction_table meaning_of load_of store_of
 print_a_final = ended flat_machine (start print_a) (after_steps print_a 6) 6 6 print_a_6 refl refl (omega arith)
 
 pub print_a_output : output_of_run print_a ≡ print_a_report
-unfolding output_of_run named digits decode_of instruction_table meaning_of load_of store_of
+unfolding output_of_run text_on_literals digits decode_of instruction_table meaning_of load_of store_of
 print_a_output =
     ap out_of print_a_final
     ∙ ap (λ head. report flat_machine head (after_steps print_a 6 ∷ [])) (head_of-alone flat_machine (after_steps print_a 6) 6 6)
@@ -86,7 +86,7 @@ unfolding decode_of instruction_table meaning_of load_of store_of
 empty_final = ended flat_machine (start []) (after_steps [] 1) 1 1 empty_1 refl refl (omega arith)
 
 pub empty_output : output_of_run [] ≡ empty_report
-unfolding output_of_run named digits decode_of instruction_table meaning_of load_of store_of
+unfolding output_of_run text_on_literals digits decode_of instruction_table meaning_of load_of store_of
 empty_output =
     ap out_of empty_final
     ∙ ap (λ head. report flat_machine head (after_steps [] 1 ∷ [])) (head_of-alone flat_machine (after_steps [] 1) 1 1)

@@ -1,7 +1,6 @@
 pub mod World
 pub mod Outcome
 pub mod Alone
-pub mod Text
 pub mod Report
 pub mod Status
 pub mod Case

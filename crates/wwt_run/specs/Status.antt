@@ -16,7 +16,7 @@ use Rattle.wwt_run.specs.declared.status.Status.{Status}
 use Rattle.wwt_run.specs.declared.status.Status.TheVariants.{Done, NodeFault, Usage, Budget, EventLimit, Stalled, BadMachine, BadImage, ReadFault, WriteFault, NoMemory}
 use Rattle.wwt_run.specs.World.{World}
 use Rattle.wwt_run.specs.Outcome.{outcome_of}
-use Rattle.wwt_run.specs.Text.{line_end, hex}
+use Rattle.wt_text.specs.Text.{line_end, hex_of}
 
 -- the exit status
 abbrev pub code_of : Status → ℕ
@@ -60,7 +60,7 @@ usage_text = codes "usage: run [--workers W] [--trace] [--memory] [--budget B] M
 
 abbrev pub image_text_of : ImageRefusal → List ℕ
 image_text_of TooLong = codes "too long"
-image_text_of (Outside address) = codes "outside " ++ hex address
+image_text_of (Outside address) = codes "outside " ++ hex_of address
 
 abbrev pub refusal_text : Refusal → List ℕ
 refusal_text refusals.Usage = usage_text

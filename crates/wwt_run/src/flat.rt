@@ -10,7 +10,7 @@ ghost use Rattle.wwt_run.specs.Report.{joined};
 ghost use Rattle.wwt_run.specs.Status.{status_after_of};
 
 use crate::head::Outcome;
-use crate::line::Line;
+use wt_text::Line;
 use crate::refusal::{ImageRefusal, Refusal};
 use crate::report::report_alone;
 use crate::simulate::run_alone;
