@@ -1,14 +1,12 @@
 -- The directory's two tables: what a message does to a block's entry and memory, what is sent, and what else is to be
 -- done. A row of a table is a clause. After Dir1SW (Hill, Larus, Reinhardt, Wood, Cooperative Shared Memory, 1993);
 -- own in all details.
-use Rattle.std.specs.Prelude.{◌≡◌, ℕ, ◌+◌, ◌-◌, ◌%◌, ◌^◌, ◌<◌, ◌≤◌, ◌==◌, Bool, true, false, if◌then◌else◌, List, [], ◌∷◌, ◌++◌, Option, Some, None, unwrap_or}
+use Rattle.std.specs.Prelude.{◌≡◌, ℕ, ◌+◌, ◌-◌, ◌%◌, ◌^◌, ◌<◌, ◌≤◌, ◌==◌, Bool, true, false, if◌then◌else◌, List, [], ◌∷◌, ◌++◌, Option, unwrap_or}
 use Rattle.wt_proto.specs.declared.directory.DirState.{DirState}
 use Rattle.wt_proto.specs.declared.directory.DirState.TheVariants.{Idle, Shared, Exclusive, Busy}
-use Rattle.wt_proto.specs.declared.directory.DirEntry.{DirEntry}
 use Rattle.wt_proto.specs.declared.directory.Request.{Request}
 use Rattle.wt_proto.specs.declared.directory.Targets.{Targets}
 use Rattle.wt_proto.specs.declared.directory.Targets.TheVariants.{AllBut, One}
-use Rattle.wt_proto.specs.declared.directory.TrapPlan.{TrapPlan}
 use Rattle.wt_proto.specs.declared.message.Body.{Body}
 use Rattle.wt_proto.specs.declared.message.Body.TheVariants.{GetS, GetX, PutS, PutX, DataS, DataX, InvAck, Wake}
 use Rattle.wt_proto.specs.declared.message.Outgoing.{Outgoing}
@@ -105,6 +103,7 @@ request_of place exclusive home = row home.entry.state home.entry.waiting
   where
     request : Request
     request = record { node = place.from; exclusive = exclusive }
+
     row : DirState → List Request → Row
     row (Busy from for_x left) waiting = quiet Done (with_waiting (waiting ++ request ∷ []) home)
     row state (first ∷ rest) = quiet Done (with_waiting ((first ∷ rest) ++ request ∷ []) home)
@@ -155,6 +154,7 @@ inv_ack_of place bytes home = row home.entry.state
   where
     kept : HomeBlock
     kept = with_memory (unwrap_or bytes home.memory) home
+
     row : DirState → Row
     row (Busy from exclusive left) =
         if left == 1 then grant_of place (record { node = from; exclusive = exclusive }) kept

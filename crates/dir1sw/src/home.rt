@@ -32,12 +32,7 @@ pub struct HomeBlock {
 
 impl HomeBlock {
     /// Handles a message.
-    pub fn arrive(
-        &mut self,
-        place: Place,
-        body: &Body,
-        out: &mut Sends,
-    ) -> Result<DirAct, NoMemory>
+    pub fn arrive(&mut self, place: Place, body: &Body, out: &mut Sends) -> Result<DirAct, NoMemory>
         requires nodes { 1 ≤ place.nodes }
         requires sound { IsSound self.old.entry.state }
         requires count { CanCount self.old.entry.state }
@@ -85,12 +80,7 @@ impl HomeBlock {
     }
 
     /// Serves a request at an entry that isn't busy.
-    fn serve(
-        &mut self,
-        place: Place,
-        request: Request,
-        out: &mut Sends,
-    ) -> Result<DirAct, NoMemory>
+    fn serve(&mut self, place: Place, request: Request, out: &mut Sends) -> Result<DirAct, NoMemory>
         requires nodes { 1 ≤ place.nodes }
         requires sound { IsSound self.old.entry.state }
         requires count { CanCount self.old.entry.state }
@@ -288,8 +278,8 @@ impl HomeBlock {
         } else {
             DirState::Shared { count: 1 }
         };
-        let act = self.answer(place, request, state, out)?;
-        self.wake_next(place, act, out)
+        let granted = self.answer(place, request, state, out)?;
+        self.wake_next(place, granted, out)
     }
 
     /// The first request that waits is served.
@@ -306,8 +296,8 @@ impl HomeBlock {
         let Some(request) = self.entry.waiting.pop_first() else {
             return Ok(DirAct::Stray);
         };
-        let act = self.serve(place, request, out)?;
-        self.wake_next(place, act, out)
+        let served = self.serve(place, request, out)?;
+        self.wake_next(place, served, out)
     }
 
     /// Sends a Wake to the home itself, where a request was granted and somebody waits.

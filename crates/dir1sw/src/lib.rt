@@ -2,6 +2,11 @@
 //! memory. After Dir1SW (Hill, Larus, Reinhardt, Wood, Cooperative Shared Memory, 1993).
 #![tactic(auto)]
 
+mod directory;
 mod home;
 
+pub use directory::Directory;
 pub use home::{DirAct, HomeBlock, Place};
+
+#[cfg(test)]
+mod tests;

@@ -1,5 +1,5 @@
 -- The barrier unit. Own.
-use Rattle.std.specs.Prelude.{ℕ, Bool, not, ◌&&◌, ◌||◌, is_some, List, [], slice_get, if◌then◌else◌}
+use Rattle.std.specs.Prelude.{ℕ, Bool, ◌&&◌, ◌||◌, is_some, List, [], slice_get, if◌then◌else◌}
 use Rattle.std.specs.List.{list_all}
 use Rattle.wt_proto.specs.NodeSets.{has_node, with_node, nodes_below}
 use Rattle.target_barrier.specs.declared.barrier.Release.{Release}

@@ -4,7 +4,7 @@ ghost use Rattle.target_barrier.specs.Barrier.{is_known, is_complete, opened, ar
 
 use std::marker::Model;
 use std::mem;
-use wt_proto::NodeSet;
+use wt_proto::{MOST_NODES, NodeSet};
 
 /// What a node's arrival or leaving brings.
 #[derive(Debug, Drop)]
@@ -27,19 +27,20 @@ pub struct BarrierUnit {
 
 impl Model for BarrierUnit {
     ghost use Rattle.wt_params.specs.Machine.{InRange};
+    ghost use Rattle.wt_proto.specs.declared.node_set.TheConstants.{MOST_NODES};
     ghost use Rattle.target_barrier.specs.Barrier.{Barrier};
 
     ghost Value = { Barrier };
 
     ghost view = { λ unit. record { nodes = unit.nodes; arrived = unit.arrived; left = unit.left } };
 
-    ghost invariant = { λ unit. InRange 1 32 unit.nodes };
+    ghost invariant = { λ unit. InRange 1 MOST_NODES unit.nodes };
 }
 
 impl BarrierUnit {
     /// A barrier of so many nodes, where nobody has arrived or left.
     pub fn new(nodes: u32) -> BarrierUnit
-        requires { InRange 1 32 nodes }
+        requires { InRange 1 MOST_NODES nodes }
         ensures { result ≡ record { nodes = nodes; arrived = []; left = [] } }
     {
         BarrierUnit {
@@ -54,6 +55,7 @@ impl BarrierUnit {
         requires { node < self.old.nodes }
         ensures after { self.new ≡ (arrive_of self.old node).0 }
         ensures release { result ≡ (arrive_of self.old node).1 }
+        ensures nodes { self.new.nodes ≡ self.old.nodes }
     {
         if self.knows(node) {
             return Release::Stray;
@@ -67,6 +69,7 @@ impl BarrierUnit {
         requires { node < self.old.nodes }
         ensures after { self.new ≡ (leave_of self.old node).0 }
         ensures release { result ≡ (leave_of self.old node).1 }
+        ensures nodes { self.new.nodes ≡ self.old.nodes }
     {
         if self.knows(node) {
             return Release::Stray;
@@ -101,6 +104,7 @@ impl BarrierUnit {
     fn open(&mut self) -> Release
         ensures after { self.new ≡ (opened self.old).0 }
         ensures release { result ≡ (opened self.old).1 }
+        ensures nodes { self.new.nodes ≡ self.old.nodes }
     {
         if !self.complete() {
             return Release::Hold;

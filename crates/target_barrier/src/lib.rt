@@ -5,3 +5,5 @@ mod barrier;
 
 pub use barrier::{BarrierUnit, Release};
 
+#[cfg(test)]
+mod tests;

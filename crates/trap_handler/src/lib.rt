@@ -5,3 +5,5 @@ mod trap;
 
 pub use trap::run_trap;
 
+#[cfg(test)]
+mod tests;

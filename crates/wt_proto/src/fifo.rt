@@ -4,9 +4,11 @@ ghost use Rattle.std.specs.Option.{option_copied};
 use std::alloc::Global;
 use std::collections::VecDeque;
 use std::marker::Model;
+use std::mem;
 use wt_params::NoMemory;
 
-/// A list that grows at its end and is taken from at its front. Contracts see it as the list of its items.
+/// A list that grows at its end and is taken from at its front. Contracts see it as the list of its items. An empty
+/// one holds no memory.
 #[derive(Debug, Drop)]
 pub struct Fifo<T> {
     items: VecDeque<T>,
@@ -62,10 +64,16 @@ impl<T> Fifo<T> {
         Ok(())
     }
 
-    /// Takes the first item out. None exactly where there is none.
+    /// Takes the first item out. None exactly where there is none. A list that has become empty gives its memory
+    /// back.
     pub fn pop_first(&mut self) -> Option<T>
         ensures { MatchOption result ((self.old ≡ []) × (self.new ≡ [])) (λ item. self.old ≡ item ∷ self.new) }
     {
-        self.items.pop_front()
+        let first = self.items.pop_front();
+        if self.items.is_empty() {
+            let unused = VecDeque::new(*self.items.allocator());
+            mem::replace(&mut self.items, unused).destroy_empty();
+        }
+        first
     }
 }
