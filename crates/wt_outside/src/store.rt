@@ -21,12 +21,16 @@ pub enum StoreFail {
 /// Files by name, each read whole.
 pub trait Store {
     ghost use Rattle.wt_outside.specs.Answers.{UnlessFailed};
+    ghost use Rattle.wt_outside.specs.Faults.{one_more};
 
     /// The files, by the bytes of their names. None where the store doesn't tell.
     ghost files: { Self → Option Files };
 
     /// How often reading has failed. It never falls, and stands still at 2^64 - 1.
     ghost faults: { Self → ℕ };
+
+    /// How often a read was asked for. It stands still at 2^64 - 1.
+    ghost reads: { Self → ℕ };
 
     /// All bytes of a file, where there are at most `limit`. The name `-` is standard input.
     fn read(&mut self, name: &str, limit: u64) -> Result<Vec<u8>, StoreFail>
@@ -43,6 +47,9 @@ pub trait Store {
         // Of told files TooLong comes exactly where no fault rose and the file is longer; `NoMemory` alone may come in its place.
         ensures too_long { IsErrOf result StoreFail.TooLong → IsSome (files self.old) → Stood (faults self.old) (faults self.new) × IsLonger (files self.old) name.now limit }
         ensures longer { IsLonger (files self.old) name.now limit → Stood (faults self.old) (faults self.new) → IsErrOf result StoreFail.TooLong ⊎ IsErrOf result StoreFail.NoMemory }
+
+        // One more read was asked for.
+        ensures asked { reads self.new ≡ one_more (reads self.old) }
 
         // Every other answer leaves the count as it was.
         ensures steady { UnlessFailed result (faults self.new ≡ faults self.old) }

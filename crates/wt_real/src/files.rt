@@ -16,15 +16,21 @@ const CHUNK: u64 = 4096;
 #[derive(Drop)]
 pub struct FileStore<R: Drop> {
     rt: R,
+    reads: u64,
     faults: u64,
 }
 
 impl<R: Files + Input + AllocGlobal + Clone + Drop> FileStore<R> {
     /// The files that this runtime reaches.
     pub fn new(rt: R) -> FileStore<R>
-        ensures { ⟦<FileStore<R> as Store>⟧.faults result ≡ 0 }
+        ensures faults { ⟦<FileStore<R> as Store>⟧.faults result ≡ 0 }
+        ensures reads { ⟦<FileStore<R> as Store>⟧.reads result ≡ 0 }
     {
-        FileStore { rt, faults: 0 }
+        FileStore {
+            rt,
+            reads: 0,
+            faults: 0,
+        }
     }
 }
 
@@ -33,8 +39,11 @@ impl<R: Files + Input + AllocGlobal + Clone + Drop> Store for FileStore<R> {
 
     ghost faults = { λ s. s.faults };
 
+    ghost reads = { λ s. s.reads };
+
     fn read(&mut self, name: &str, limit: u64) -> Result<Vec<u8>, StoreFail> {
         let alloc = self.rt.alloc();
+        self.reads = self.reads.saturating_add(1);
         if name == "-" {
             let mut input = self.rt.reader();
             return read_whole(alloc, &mut input, limit, &mut self.faults);
