@@ -1,12 +1,12 @@
 -- What private memory answers to a fetch, and to the first bytes.
-use Rattle.std.proofs.Common.{◌≡◌, ℕ, ◌%◌, ◌≤◌, Bool, true, false, cond, List, length, replicate, Some, None, Result, Ok, Err, IsOk, IfErr, refl, ap, ◌∙◌, arith}
-use Rattle.std.specs.Prelude.{◌==◌, nat_le, not}
+use Rattle.std.proofs.Common.{◌≡◌, ℕ, ◌+◌, ◌%◌, ◌≤◌, Bool, true, false, cond, List, length, replicate, Some, None, Result, Ok, Err, IsOk, IfErr, refl, ap, ◌∙◌, arith}
+use Rattle.std.specs.Prelude.{◌==◌, nat_le, not, slice_range}
 use Rattle.std.specs.Result.{result_ok}
 use Rattle.std.proofs.lemmas.Bool.Decides.{nat_tests}
 use Rattle.std.proofs.Math.ListN.{length-replicate}
 use Rattle.priv_mem.specs.declared.fault.MemFault.{MemFault}
 use Rattle.priv_mem.specs.declared.fault.MemFault.TheVariants.{Misaligned, Outside}
-use Rattle.priv_mem.specs.Memory.{load_of, fill_of, overwritten, is_misaligned, is_outside}
+use Rattle.priv_mem.specs.Memory.{load_of, fill_of, overwritten, is_misaligned, is_outside, access_gives, little_endian}
 use Rattle.node.specs.Event.{word_at}
 
 aligned_at : (pc : ℕ) → pc % 4 ≡ 0 → is_misaligned pc 4 ≡ false
@@ -16,14 +16,14 @@ aligned_at pc aligned = ap (λ rest. not (rest == 0)) aligned
 outside_at : (size pc : ℕ) → size % 4096 ≡ 0 → pc % 4 ≡ 0 → is_outside size pc 4 ≡ nat_le size pc
 outside_at size pc pages aligned = grind (arith, nat_tests)
 
-by_tests : (misaligned outside past : Bool) (word : ℕ) → misaligned ≡ false → outside ≡ past → result_ok (cond misaligned (Err Misaligned) (cond outside (Err Outside) (Ok word))) ≡ cond past None (Some word)
-by_tests misaligned outside true word aligned same = simp (aligned, same)
-by_tests misaligned outside false word aligned same = simp (aligned, same)
+by_tests : (given : ℕ → ℕ) (misaligned outside past : Bool) (start : ℕ) → misaligned ≡ false → outside ≡ past → result_ok (access_gives given (cond misaligned (Err Misaligned) (cond outside (Err Outside) (Ok start)))) ≡ cond past None (Some (given start))
+by_tests given misaligned outside true start aligned same = simp (aligned, same)
+by_tests given misaligned outside false start aligned same = simp (aligned, same)
 
 pub fetch_is : (memory : List ℕ) (size pc : ℕ) → length memory ≡ size → size % 4096 ≡ 0 → pc % 4 ≡ 0 → result_ok (load_of memory pc 4) ≡ cond (nat_le size pc) None (Some (word_at memory pc))
 unfolding load_of
 fetch_is memory size pc whole pages aligned =
-    by_tests (is_misaligned pc 4) (is_outside (length memory) pc 4) (nat_le size pc) (word_at memory pc) (aligned_at pc aligned)
+    by_tests (λ start. little_endian (slice_range memory start (start + 4))) (is_misaligned pc 4) (is_outside (length memory) pc 4) (nat_le size pc) pc (aligned_at pc aligned)
     (ap (λ n. is_outside n pc 4) whole ∙ outside_at size pc pages aligned)
 
 inside : (size count : ℕ) → count ≤ size → is_outside size 0 count ≡ false

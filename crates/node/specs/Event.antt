@@ -1,7 +1,5 @@
 -- What one event does to its node. Own, but for the instructions, which are those of the RISC-V manual.
 use Rattle.std.specs.Prelude.{ℕ, ◌+◌, ◌/◌, ◌%◌, ◌^◌, ◌==◌, [], ◌∷◌, ◌++◌, List, Option, Result, Ok, Err, slice_range, max, slice_index, nat_le, if◌then◌else◌, Some, None}
-use Rattle.std.specs.declared.cmp.Ordering.{Ordering}
-use Rattle.std.specs.Ordering.{nat_cmp, ordering_then}
 use Rattle.wt_params.specs.declared.parts.MachineParts.{MachineParts}
 use Rattle.rv_decode.specs.declared.instr.LoadOp.{LoadOp}
 use Rattle.rv_decode.specs.declared.instr.StoreOp.{StoreOp}
@@ -14,33 +12,24 @@ use Rattle.rv_exec.specs.Widths.{load_width_of, store_width_of, widened}
 use Rattle.priv_mem.specs.declared.fault.MemFault.{MemFault}
 use Rattle.priv_mem.specs.declared.fault.MemFault.TheVariants.{Misaligned, Outside}
 use Rattle.priv_mem.specs.Memory.{little_endian, load_of, store_of}
-use Rattle.node.specs.declared.key.Key.{Key}
-use Rattle.node.specs.declared.mode.Cause.{Cause}
-use Rattle.node.specs.declared.mode.Cause.TheVariants as causes
-use Rattle.node.specs.declared.mode.Mode.{Mode}
-use Rattle.node.specs.declared.mode.Mode.TheVariants.{Running, Stopped}
-use Rattle.node.specs.NodeState.{NodeState}
+use Rattle.wt_proto.specs.declared.key.Key.{Key}
+use Rattle.wt_proto.specs.declared.mode.Cause.{Cause}
+use Rattle.wt_proto.specs.declared.mode.Cause.TheVariants as causes
+use Rattle.wt_proto.specs.declared.mode.Mode.{Mode}
+use Rattle.wt_proto.specs.declared.mode.Mode.TheVariants.{Running, Stopped}
+use Rattle.discrete_events.specs.Simulation.{Simulation, Event, Step, Arrival, Message, key_of_step}
+use Rattle.node.specs.NodeState.{NodeState, events_of}
 
--- The kinds of message. Nothing is sent yet by what is built, so there is none.
-pub data Message : Type 0 where
-
--- the next step of a node's processor, or a message that comes to the node
-pub data Event : Type 0 where
-  Step : Event
-  Arrival : Message → Event
+-- What a message says. Nothing is sent yet by what is built, so there is nothing.
+pub data Body : Type 0 where
 
 -- A processor's next step begins when it is ready and no trap keeps its node busy.
 abbrev pub step_time : NodeState → ℕ
 step_time node = max node.ready node.busy
 
--- Keys are compared from left to right.
-abbrev pub key_cmp : Key → Key → Ordering
-key_cmp a b =
-    ordering_then (nat_cmp a.time b.time)
-    (ordering_then (nat_cmp a.to b.to) (ordering_then (nat_cmp a.from b.from) (nat_cmp a.sequence b.sequence)))
-
-abbrev pub step_key : MachineParts → NodeState → Key
-step_key machine node = record { time = step_time node; to = node.number; from = machine.nodes; sequence = 0 }
+-- the key of a processor's next step
+abbrev pub next_key : MachineParts → NodeState → Key
+next_key machine node = key_of_step machine.nodes node.number (step_time node)
 
 -- the number of the four bytes at an address
 abbrev pub word_at : List ℕ → ℕ → ℕ
@@ -142,18 +131,34 @@ stepped machine time node = step_of machine time node (fetched machine node)
 abbrev pub counted_step : MachineParts → NodeState → NodeState
 counted_step machine node = record node {
   counters = record (node.counters) { steps = node.counters.steps + 1 };
-  last = Some (step_key machine node);
+  last = Some (next_key machine node);
 }
 
--- The node after an event.
-abbrev pub react : MachineParts → NodeState → Event → NodeState
-react machine node Step = stepped machine (step_time node) (counted_step machine node)
-react machine node (Arrival message) = elim message [ ]
+-- The node after an event, and the messages that it sends.
+abbrev pub react : MachineParts → NodeState → Event Body → NodeState × List (Message Body)
+react machine node Step = (stepped machine (step_time node) (counted_step machine node), [])
+react machine node (Arrival message) = elim message.1 [ ]
+
+-- a step that begins at a time, where a processor in this mode has one
+abbrev pub step_in : Mode → ℕ → Option ℕ
+step_in Running time = Some time
+step_in _ time = None
 
 -- when a running processor's next step begins
 abbrev pub next_step_of : NodeState → Option ℕ
-next_step_of node = time_in node.mode (step_time node)
-  where
-    time_in : Mode → ℕ → Option ℕ
-    time_in Running time = Some time
-    time_in _ time = None
+next_step_of node = step_in node.mode (step_time node)
+
+-- The machine, as a simulation of its nodes: the least time to another node is the latency.
+abbrev pub wind_tunnel : MachineParts → Simulation NodeState Body
+wind_tunnel machine = record {
+  nodes = machine.nodes;
+  event_limit = machine.event_limit;
+  budget = machine.budget;
+  quantum = machine.quantum;
+  lookahead = machine.latency;
+  number = λ node. node.number;
+  handled = events_of;
+  last = λ node. node.last;
+  next = next_step_of;
+  react = react machine;
+}

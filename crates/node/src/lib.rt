@@ -4,14 +4,10 @@
 #![tactic(auto)]
 
 mod counters;
-mod key;
-mod mode;
 mod node;
 
 pub use self::node::Node;
 pub use counters::Counters;
-pub use key::Key;
-pub use mode::{Cause, Mode};
 
 #[cfg(test)]
 mod tests;

@@ -1,17 +1,18 @@
 ghost use Rattle.std.specs.Prelude.{◌≡◌, ℕ, ◌+◌, ◌%◌, ◌^◌, ◌<◌, ◌≤◌, ◌∷◌, ◌++◌, [], length, true, false, IsTrue, IsErr, IfOk, OnOk, OnErr};
 ghost use Rattle.rv_exec.specs.Meaning.{address_after};
-ghost use Rattle.node.specs.NodeState.{IsNode, KeepsEvents, events_of, is_spent, start_node, filled_to};
-ghost use Rattle.node.specs.Event.{Step, react, step_time, next_step_of, counted_step, stepped, fetched, executed, after_effect, loaded, stored, called, refused_access, finished, stopped, exited};
+ghost use Rattle.discrete_events.specs.Simulation.{Step};
+ghost use Rattle.discrete_events.specs.World.{is_spent};
+ghost use Rattle.node.specs.NodeState.{IsNode, WaitsForABlock, KeepsEvents, events_of, start_node, filled_to};
+ghost use Rattle.node.specs.Event.{wind_tunnel, react, step_time, next_step_of, counted_step, stepped, fetched, executed, after_effect, loaded, stored, called, refused_access, finished, stopped, exited};
 
 use crate::counters::Counters;
-use crate::key::Key;
-use crate::mode::{Cause, Mode};
 use priv_mem::{MemFault, PrivMem};
 use rv_decode::{LoadOp, StoreOp, decode};
 use rv_exec::{Effect, Regs, execute, load_width, store_width, widen};
 use std::alloc::Global;
 use std::marker::Model;
 use wt_params::{Machine, NoMemory};
+use wt_proto::{Cause, Key, Mode};
 
 /// One node: a processor with its registers and its private memory.
 #[derive(Drop)]
@@ -76,7 +77,8 @@ impl Node {
 
     /// What the processor does.
     pub fn mode(&self) -> &Mode
-        ensures { result.now ≡ self.now.state.mode }
+        ensures value { result.now ≡ self.now.state.mode }
+        ensures waits { WaitsForABlock self.now.machine result.now }
     {
         &self.mode
     }
@@ -132,7 +134,7 @@ impl Node {
 
     /// Whether the node has handled as many events as the machine allows.
     pub fn spent(&self) -> bool
-        ensures spent { result ≡ is_spent self.now.machine self.now.state }
+        ensures spent { result ≡ is_spent (wind_tunnel self.now.machine) self.now.state }
         ensures node { IsNode self.now.machine self.now.state }
     {
         self.counters.steps + self.counters.messages == self.machine.event_limit()
@@ -153,9 +155,9 @@ impl Node {
     /// answered NoMemory is broken, and answers so from then on.
     pub fn handle_step(&mut self) -> Result<(), NoMemory>
         requires running { self.old.state.mode ≡ Mode.Running }
-        requires unspent { is_spent self.old.machine self.old.state ≡ false }
+        requires unspent { is_spent (wind_tunnel self.old.machine) self.old.state ≡ false }
         requires in_budget { step_time self.old.state < self.old.machine.budget }
-        ensures reacts { OnOk result (self.new ≡ record self.old { state = react self.old.machine self.old.state Step }) }
+        ensures reacts { OnOk result (self.new ≡ record self.old { state = (react self.old.machine self.old.state Step).0 }) }
         ensures broken { OnErr result (IsTrue self.new.broken) }
         ensures stays_broken { IsTrue self.old.broken → IsErr result }
         ensures machine { self.new.machine ≡ self.old.machine }
@@ -173,7 +175,7 @@ impl Node {
     /// Counts a step that is begun at a time.
     fn count_step(&mut self, time: u64)
         requires time { time ≡ step_time self.old.state }
-        requires unspent { is_spent self.old.machine self.old.state ≡ false }
+        requires unspent { is_spent (wind_tunnel self.old.machine) self.old.state ≡ false }
         ensures counted { self.new ≡ record self.old { state = counted_step self.old.machine self.old.state } }
         ensures room { self.new.state.counters.done < self.new.state.counters.steps }
     {

@@ -3,6 +3,7 @@ use std::alloc::Global;
 use std::process::Abort;
 use std::test::Fail;
 use wt_params::{Machine, NoMemory};
+use wt_proto::{Cause, Mode};
 
 /// A program of a few words, and what stands when it has stopped.
 #[derive(Clone, Copy)]

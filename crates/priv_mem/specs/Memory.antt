@@ -30,28 +30,29 @@ is_misaligned address width = not (address % width == 0)
 abbrev pub is_outside : ℕ → ℕ → ℕ → Bool
 is_outside size address count = nat_lt 0 count && nat_lt size (address + count)
 
+-- where the first byte of a load or a store lies, or what refuses it: a misaligned address first
+abbrev pub access_of : ℕ → ℕ → ℕ → Result ℕ MemFault
+access_of size address width =
+    if is_misaligned address width then Err Misaligned
+    else (if is_outside size address width then Err Outside else Ok address)
+
+-- what an access gives from where its first byte lies on, or what refuses it
+abbrev pub access_gives : {A : Type 0} → (ℕ → A) → Result ℕ MemFault → Result A MemFault
+access_gives given (Ok start) = Ok (given start)
+access_gives given (Err fault) = Err fault
+
 -- the number of so many bytes at an address
 unfoldable pub load_of : List ℕ → ℕ → ℕ → Result ℕ MemFault
 load_of memory address width =
-    if is_misaligned address width then Err Misaligned
-    else (if is_outside (length memory) address width then Err Outside
-    else Ok (little_endian (slice_range memory address (address + width))))
+    access_gives (λ start. little_endian (slice_range memory start (start + width))) (access_of (length memory) address width)
 
 -- the memory after so many of the lowest bytes of a number were written at an address
 unfoldable pub store_of : List ℕ → ℕ → ℕ → ℕ → Result (List ℕ) MemFault
 store_of memory address width number =
-    if is_misaligned address width then Err Misaligned
-    else (if is_outside (length memory) address width then Err Outside
-    else Ok (overwritten memory address (low_bytes width number)))
+    access_gives (λ start. overwritten memory start (low_bytes width number)) (access_of (length memory) address width)
 
 -- the memory after bytes were laid into it from an address on, however aligned
 unfoldable pub fill_of : List ℕ → ℕ → List ℕ → Result (List ℕ) MemFault
 fill_of memory address bytes =
     if is_outside (length memory) address (length bytes) then Err Outside
     else Ok (overwritten memory address bytes)
-
--- where the first byte of a load or a store lies, or what refuses it
-abbrev pub access_of : ℕ → ℕ → ℕ → Result ℕ MemFault
-access_of size address width =
-    if is_misaligned address width then Err Misaligned
-    else (if is_outside size address width then Err Outside else Ok address)

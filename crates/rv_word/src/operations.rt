@@ -1,8 +1,6 @@
 ghost use Rattle.std.specs.Prelude.{◌≡◌};
 ghost use Rattle.rv_word.specs.Operations.{alu_of, takes};
 
-use crate::words::sign_extend;
-
 /// The operation of an instruction of OP, OP-IMM or of a shift by a constant.
 #[derive(Clone, Copy, Debug, PartialEq, Eq)]
 pub enum AluOp {
@@ -58,7 +56,7 @@ pub fn alu(op: AluOp, a: u32, b: u32) -> u32
         AluOp::Sltu => u32::from(a < b),
         AluOp::Xor => a ^ b,
         AluOp::Srl => a >> amount,
-        AluOp::Sra => sign_extend(a >> amount, 32 - amount),
+        AluOp::Sra => (a.cast_signed() >> amount).cast_unsigned(),
         AluOp::Or => a | b,
         AluOp::And => a & b,
     }

@@ -1,1 +1,3 @@
 mod Found
+pub mod FaultLemmas
+pub mod GrowthLemmas

@@ -1,14 +1,11 @@
 //! The program `wwt`: its command line over the host's files and streams.
 #![tactic(auto)]
 
-mod real;
-
-use real::{ErrSink, FileStore, OutSink};
 use std::process::ExitCode;
 use std::rt::Env;
 use std::{env, io};
-use wt_outside::Sink;
-use wwt_run::{Status, wwt_plain};
+use wt_real::{ErrSink, FileStore, OutSink};
+use wwt_run::{out_of_memory, wwt_plain};
 
 fn main(rt: HostRuntime) -> ExitCode {
     let mut store = FileStore::new(rt);
@@ -16,10 +13,7 @@ fn main(rt: HostRuntime) -> ExitCode {
     let mut err = ErrSink::new(rt.stderr());
     let status = match words(&rt) {
         Ok(words) => wwt_plain(rt.alloc(), &words, &mut store, &mut out, &mut err).unwrap(),
-        Err(error) if error.kind() == io::ErrorKind::OutOfMemory => {
-            let _ = err.write(b"wwt: out of memory\n");
-            Status::NoMemory
-        }
+        Err(error) if error.kind() == io::ErrorKind::OutOfMemory => out_of_memory(&mut err),
         // A word that isn't text is refused as no words are.
         Err(_) => wwt_plain(rt.alloc(), &[], &mut store, &mut out, &mut err).unwrap(),
     };

@@ -1,6 +1,6 @@
 -- Which status and which line go with which answer.
 use Rattle.std.proofs.Common.{◌≡◌, ℕ, List, [], Option, Some, ap, sym, ◌∙◌, subst, refl, ◌⊎◌, inl, inr}
-use Rattle.wt_outside.specs.Growth.{grows_nothing, prefix_nothing}
+use Rattle.wt_outside.proofs.GrowthLemmas.{grows_nothing, prefix_nothing}
 use Rattle.wwt_run.specs.declared.refusal.Refusal.{Refusal}
 use Rattle.wwt_run.specs.declared.refusal.Refusal.TheVariants as refusals
 use Rattle.wwt_run.specs.declared.status.Status.{Status}

@@ -5,15 +5,16 @@ use Rattle.wt_params.specs.Machine.{flat_machine}
 use Rattle.rv_decode.specs.Table.{decode_of, instruction_table}
 use Rattle.rv_exec.specs.Meaning.{meaning_of}
 use Rattle.priv_mem.specs.Memory.{load_of, store_of}
+use Rattle.discrete_events.specs.Serial.{serial, final}
 use Rattle.node.specs.NodeState.{NodeState, start_node, events_of}
+use Rattle.node.specs.Event.{wind_tunnel}
 use Rattle.wwt_run.specs.declared.status.Status.TheVariants.{Done, NodeFault}
 use Rattle.wwt_run.specs.World.{alone}
-use Rattle.wwt_run.specs.Serial.{serial, final}
 use Rattle.wwt_run.specs.Alone.{world_of}
 use Rattle.wwt_run.specs.Case.{out_of, output_of_run, status_of_run}
 use Rattle.wwt_run.specs.Report.{report}
 use Rattle.wwt_run.specs.Status.{status_of_world, status_after_of}
-use Rattle.wwt_run.specs.Text.{named}
+use Rattle.wt_text.proofs.OnLiterals.{text_on_literals}
 use Rattle.wwt_run.specs.Examples.{print_a, endless_jump, after_steps, print_a_report, empty_report}
 use Rattle.wwt_run.proofs.AloneLemmas.{Progress, begun, gone_on, ended, head_of-alone, outcome_of-alone}
 
@@ -64,12 +65,12 @@ jump_3 : Comes endless_jump 3
 unfolding decode_of instruction_table meaning_of load_of store_of
 jump_3 = gone_on flat_machine (start endless_jump) (after_steps endless_jump 2) (after_steps endless_jump 3) 2 2 2 3 3 jump_2 refl refl refl refl refl
 
-print_a_final : final flat_machine (alone (start print_a)) ≡ world_of (after_steps print_a 6) 6 6
+print_a_final : final (wind_tunnel flat_machine) (alone (start print_a)) ≡ world_of (after_steps print_a 6) 6 6
 unfolding decode_of instruction_table meaning_of load_of store_of
 print_a_final = ended flat_machine (start print_a) (after_steps print_a 6) 6 6 print_a_6 refl refl (omega arith)
 
 pub print_a_output : output_of_run print_a ≡ print_a_report
-unfolding output_of_run named digits decode_of instruction_table meaning_of load_of store_of
+unfolding output_of_run text_on_literals digits decode_of instruction_table meaning_of load_of store_of
 print_a_output =
     ap out_of print_a_final
     ∙ ap (λ head. report flat_machine head (after_steps print_a 6 ∷ [])) (head_of-alone flat_machine (after_steps print_a 6) 6 6)
@@ -80,12 +81,12 @@ print_a_status =
     ap (status_of_world flat_machine) print_a_final
     ∙ ap (λ outcome. status_after_of outcome (after_steps print_a 6 ∷ [])) (outcome_of-alone flat_machine (after_steps print_a 6) 6 6)
 
-empty_final : final flat_machine (alone (start [])) ≡ world_of (after_steps [] 1) 1 1
+empty_final : final (wind_tunnel flat_machine) (alone (start [])) ≡ world_of (after_steps [] 1) 1 1
 unfolding decode_of instruction_table meaning_of load_of store_of
 empty_final = ended flat_machine (start []) (after_steps [] 1) 1 1 empty_1 refl refl (omega arith)
 
 pub empty_output : output_of_run [] ≡ empty_report
-unfolding output_of_run named digits decode_of instruction_table meaning_of load_of store_of
+unfolding output_of_run text_on_literals digits decode_of instruction_table meaning_of load_of store_of
 empty_output =
     ap out_of empty_final
     ∙ ap (λ head. report flat_machine head (after_steps [] 1 ∷ [])) (head_of-alone flat_machine (after_steps [] 1) 1 1)
@@ -96,13 +97,13 @@ empty_status =
     ap (status_of_world flat_machine) empty_final
     ∙ ap (λ outcome. status_after_of outcome (after_steps [] 1 ∷ [])) (outcome_of-alone flat_machine (after_steps [] 1) 1 1)
 
-by_count : (bytes : List ℕ) (n : ℕ) (so_far : Comes bytes n) → events_of (after_steps bytes n) ≡ events_of (start bytes) + n → serial flat_machine n (alone (start bytes)) ≡ world_of (after_steps bytes n) n n
+by_count : (bytes : List ℕ) (n : ℕ) (so_far : Comes bytes n) → events_of (after_steps bytes n) ≡ events_of (start bytes) + n → serial (wind_tunnel flat_machine) n (alone (start bytes)) ≡ world_of (after_steps bytes n) n n
 by_count bytes n so_far counted =
     let steps_are : n ≡ so_far.steps = omega (arith, so_far.counted) in
-    ap (λ k. serial flat_machine k (alone (start bytes))) steps_are ∙ so_far.run
+    ap (λ k. serial (wind_tunnel flat_machine) k (alone (start bytes))) steps_are ∙ so_far.run
 
 -- the first three events of the jump, by the serial run
-pub jump_so_far : serial flat_machine 3 (alone (start endless_jump)) ≡ world_of (after_steps endless_jump 3) 3 3
+pub jump_so_far : serial (wind_tunnel flat_machine) 3 (alone (start endless_jump)) ≡ world_of (after_steps endless_jump 3) 3 3
 unfolding decode_of instruction_table meaning_of load_of store_of
 jump_so_far = by_count endless_jump 3 jump_3 refl
 

@@ -2,11 +2,12 @@
 use Rattle.std.proofs.Common.{◌≡◌, ℕ, List, [], ◌∷◌, ap, sym, ◌∙◌}
 use Rattle.wt_params.specs.declared.parts.MachineParts.{MachineParts}
 use Rattle.wt_params.specs.Machine.{flat_machine}
+use Rattle.discrete_events.specs.Serial.{final}
 use Rattle.node.specs.NodeState.{NodeState, start_node}
+use Rattle.node.specs.Event.{wind_tunnel}
 use Rattle.wwt_run.specs.declared.head.Head.{Head}
 use Rattle.wwt_run.specs.declared.status.Status.{Status}
 use Rattle.wwt_run.specs.World.{alone}
-use Rattle.wwt_run.specs.Serial.{final}
 use Rattle.wwt_run.specs.Outcome.{head_of, outcome_of}
 use Rattle.wwt_run.specs.Report.{joined, report_lines}
 use Rattle.wwt_run.specs.Status.{status_after_of}
@@ -16,8 +17,8 @@ use Rattle.wwt_run.specs.Case.{status_of_run, output_of_run}
 pub record HasRun (bytes : List ℕ) (machine : MachineParts) (start now : NodeState) (head : Head) : Type 0 where
   pub machine_is : machine ≡ flat_machine
   pub start_is : start ≡ start_node flat_machine bytes
-  pub head_is : head ≡ head_of machine (final machine (alone start))
-  pub nodes_are : (final machine (alone start)).nodes ≡ now ∷ []
+  pub head_is : head ≡ head_of machine (final (wind_tunnel machine) (alone start))
+  pub nodes_are : (final (wind_tunnel machine) (alone start)).nodes ≡ now ∷ []
 
 module _ (bytes : List ℕ) (machine : MachineParts) (start now : NodeState) (head : Head) (run : HasRun bytes machine start now head) where
   pub output_is : (lines : List (List ℕ)) → lines ≡ report_lines machine head (now ∷ []) → joined lines ≡ output_of_run bytes
@@ -25,11 +26,11 @@ module _ (bytes : List ℕ) (machine : MachineParts) (start now : NodeState) (he
   output_is lines are =
       ap joined are
       ∙ (λ i. joined (report_lines machine (run.head_is i) (sym run.nodes_are i)))
-      ∙ (λ i. joined (report_lines (run.machine_is i) (head_of (run.machine_is i) (final (run.machine_is i) (alone (run.start_is i)))) (final (run.machine_is i) (alone (run.start_is i))).nodes))
+      ∙ (λ i. joined (report_lines (run.machine_is i) (head_of (run.machine_is i) (final (wind_tunnel (run.machine_is i)) (alone (run.start_is i)))) (final (wind_tunnel (run.machine_is i)) (alone (run.start_is i))).nodes))
 
   pub status_is : (status : Status) → status ≡ status_after_of head.outcome (now ∷ []) → status ≡ status_of_run bytes
   unfolding status_of_run
   status_is status is =
       is
       ∙ (λ i. status_after_of (run.head_is i).outcome (sym run.nodes_are i))
-      ∙ (λ i. status_after_of (outcome_of (run.machine_is i) (final (run.machine_is i) (alone (run.start_is i)))) (final (run.machine_is i) (alone (run.start_is i))).nodes)
+      ∙ (λ i. status_after_of (outcome_of (run.machine_is i) (final (wind_tunnel (run.machine_is i)) (alone (run.start_is i)))) (final (wind_tunnel (run.machine_is i)) (alone (run.start_is i))).nodes)

@@ -1,4 +1,3 @@
-pub mod SerialLemmas
 pub mod AloneLemmas
 pub mod Appends
 pub mod FlatLemmas

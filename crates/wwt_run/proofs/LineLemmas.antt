@@ -1,7 +1,9 @@
 -- Lines that are written one after another.
 use Rattle.std.proofs.Common.{◌≡◌, ℕ, zero, suc, ◌<◌, List, [], ◌∷◌, ◌++◌, length, take, drop, get_or, Option, Result, Ok, Err, OnOk, OnErr, ap, sym, subst, ◌∙◌, append_assoc, arith}
-use Rattle.wt_outside.specs.Faults.{Rose, Stood, not_both}
-use Rattle.wt_outside.specs.Growth.{Grows, GrowsByPrefix, grows_then_prefix, prefix_longer, prefix_all}
+use Rattle.wt_outside.specs.Faults.{Rose, Stood}
+use Rattle.wt_outside.proofs.FaultLemmas.{not_both}
+use Rattle.wt_outside.specs.Growth.{Grows, GrowsByPrefix}
+use Rattle.wt_outside.proofs.GrowthLemmas.{grows_then_prefix, prefix_longer, prefix_all}
 use Rattle.wwt_run.specs.Report.{joined}
 
 pub on_err : {T E P : Type 0} (r : Result T E) → P → OnErr r P

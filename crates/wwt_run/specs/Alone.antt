@@ -2,20 +2,21 @@
 use Rattle.std.specs.Prelude.{ℕ, ◌+◌, ◌&&◌, min, nat_le, Bool, [], ◌∷◌, Option, Some, None, if◌then◌else◌}
 use Rattle.std.specs.FinMap.{empty}
 use Rattle.wt_params.specs.declared.parts.MachineParts.{MachineParts}
-use Rattle.node.specs.declared.mode.Mode.{Mode}
-use Rattle.node.specs.declared.mode.Mode.TheVariants.{Running, Stopped}
-use Rattle.node.specs.NodeState.{NodeState, is_spent}
-use Rattle.node.specs.Event.{step_time}
+use Rattle.wt_proto.specs.declared.mode.Mode.{Mode}
+use Rattle.wt_proto.specs.declared.mode.Mode.TheVariants.{Running, Stopped}
+use Rattle.discrete_events.specs.World.{is_spent, counts_below}
+use Rattle.node.specs.NodeState.{NodeState}
+use Rattle.node.specs.Event.{step_time, wind_tunnel}
 use Rattle.wwt_run.specs.declared.head.Outcome.{Outcome}
 use Rattle.wwt_run.specs.declared.head.Outcome.TheVariants.{Finished, Budget, EventLimit, Stalled}
-use Rattle.wwt_run.specs.World.{World, is_running, counts_at}
+use Rattle.wwt_run.specs.World.{World, is_running}
 
 -- the world of one node, with nothing under way
 abbrev pub world_of : NodeState → ℕ → ℕ → World
 world_of node kept_end quanta = record { nodes = node ∷ []; pending = empty; kept_end = kept_end; quanta = quanta }
 
 abbrev pub has_step : MachineParts → NodeState → Bool
-has_step machine node = is_running node.mode && counts_at machine (step_time node) node
+has_step machine node = is_running node.mode && counts_below (wind_tunnel machine) machine.budget node (step_time node)
 
 -- when the node's next event is, if it has one
 abbrev pub due_in : MachineParts → NodeState → Option ℕ
@@ -36,4 +37,4 @@ ending_of (Stopped cause) = Finished
 ending_of _ = Stalled
 
 abbrev pub outcome_alone : MachineParts → NodeState → Outcome
-outcome_alone machine node = if is_spent machine node then EventLimit else ending_of node.mode
+outcome_alone machine node = if is_spent (wind_tunnel machine) node then EventLimit else ending_of node.mode

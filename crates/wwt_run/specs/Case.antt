@@ -8,8 +8,9 @@ use Rattle.wwt_run.specs.declared.refusal.ImageRefusal.TheVariants.{TooLong, Out
 use Rattle.wwt_run.specs.declared.refusal.Refusal.{Refusal}
 use Rattle.wwt_run.specs.declared.refusal.Refusal.TheVariants.{Usage, Read, Image, Write, Memory}
 use Rattle.wwt_run.specs.declared.status.Status.{Status}
+use Rattle.discrete_events.specs.Serial.{final}
+use Rattle.node.specs.Event.{wind_tunnel}
 use Rattle.wwt_run.specs.World.{World, start_flat}
-use Rattle.wwt_run.specs.Serial.{final}
 use Rattle.wwt_run.specs.Outcome.{head_of}
 use Rattle.wwt_run.specs.Report.{report}
 use Rattle.wwt_run.specs.Status.{status_of_world, status_of_refusal}
@@ -49,7 +50,7 @@ case_of words files = if is_flat_of words then input_case (get files input_name)
 
 -- the world in which the run of these bytes ends
 abbrev pub final_flat : List ℕ → World
-final_flat bytes = final flat_machine (start_flat flat_machine bytes)
+final_flat bytes = final (wind_tunnel flat_machine) (start_flat flat_machine bytes)
 
 -- what is written for a world
 abbrev pub out_of : World → List ℕ

@@ -1,8 +1,9 @@
 -- Worked programs, and the reports that go with them, for the definitions to be compared with. Own.
 use Rattle.std.specs.Prelude.{ℕ, zero, suc, ◌++◌, List, [], ◌∷◌, codes}
 use Rattle.wt_params.specs.Machine.{flat_machine}
+use Rattle.discrete_events.specs.Simulation.{Step}
 use Rattle.node.specs.NodeState.{NodeState, start_node}
-use Rattle.node.specs.Event.{Step, react}
+use Rattle.node.specs.Event.{react}
 
 -- six words that print one letter and end by the code 0
 abbrev pub print_a : List ℕ
@@ -17,7 +18,7 @@ endless_jump = 0x6f ∷ 0x00 ∷ 0x00 ∷ 0x00 ∷ []
 -- a node after so many steps from its start
 abbrev pub after_steps : List ℕ → ℕ → NodeState
 after_steps bytes zero = start_node flat_machine bytes
-after_steps bytes (suc n) = react flat_machine (after_steps bytes n) Step
+after_steps bytes (suc n) = (react flat_machine (after_steps bytes n) Step).0
 
 abbrev pub other_counts : List ℕ
 other_counts = codes " hits 0 misses 0 upgrades 0 replaced 0 checkins 0 invs 0 traps 0 trap_cycles 0 barriers 0 stray 0 sent 0\n"

@@ -1,8 +1,6 @@
 pub mod World
-pub mod Serial
 pub mod Outcome
 pub mod Alone
-pub mod Text
 pub mod Report
 pub mod Status
 pub mod Case

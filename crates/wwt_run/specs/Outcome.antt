@@ -3,10 +3,12 @@ use Rattle.std.specs.Prelude.{ℕ, ◌||◌, ◌==◌, not, max, sum_by, Bool, t
 use Rattle.std.specs.List.{list_any, list_all}
 use Rattle.std.specs.FinMap.{len}
 use Rattle.wt_params.specs.declared.parts.MachineParts.{MachineParts}
-use Rattle.node.specs.declared.key.Key.{Key}
-use Rattle.node.specs.declared.mode.Mode.{Mode}
-use Rattle.node.specs.declared.mode.Mode.TheVariants.{Stopped}
-use Rattle.node.specs.NodeState.{NodeState, is_spent, events_of}
+use Rattle.wt_proto.specs.declared.key.Key.{Key}
+use Rattle.wt_proto.specs.declared.mode.Mode.{Mode}
+use Rattle.wt_proto.specs.declared.mode.Mode.TheVariants.{Stopped}
+use Rattle.discrete_events.specs.World.{is_spent}
+use Rattle.node.specs.NodeState.{NodeState, events_of}
+use Rattle.node.specs.Event.{wind_tunnel}
 use Rattle.wwt_run.specs.declared.head.Outcome.{Outcome}
 use Rattle.wwt_run.specs.declared.head.Outcome.TheVariants.{Finished, Budget, EventLimit, Stalled}
 use Rattle.wwt_run.specs.declared.head.Head.{Head}
@@ -19,7 +21,7 @@ is_stopped _ = false
 -- the outcome of a world without events
 abbrev pub outcome_of : MachineParts → World → Outcome
 outcome_of machine world =
-    if list_any (is_spent machine) world.nodes then EventLimit
+    if list_any (is_spent (wind_tunnel machine)) world.nodes then EventLimit
     else if not (len world.pending == 0) || list_any (λ (node : NodeState). is_running node.mode) world.nodes then Budget
     else if list_all (λ (node : NodeState). is_stopped node.mode) world.nodes then Finished
     else Stalled

@@ -3,17 +3,17 @@ use Rattle.std.specs.Prelude.{ℕ, ◌+◌, List, [], ◌∷◌, ◌++◌, lengt
 use Rattle.wt_params.specs.declared.parts.MachineParts.{MachineParts}
 use Rattle.wt_params.specs.Machine.{block_address}
 use Rattle.node.specs.declared.counters.Counters.{Counters}
-use Rattle.node.specs.declared.mode.Cause.{Cause}
-use Rattle.node.specs.declared.mode.Cause.TheVariants.{Exit, Illegal, Fetch, Target, Address, Misaligned, Call, Break}
-use Rattle.node.specs.declared.mode.Mode.{Mode}
-use Rattle.node.specs.declared.mode.Mode.TheVariants.{Running, Waiting, InBarrier, Stopped}
+use Rattle.wt_proto.specs.declared.mode.Cause.{Cause}
+use Rattle.wt_proto.specs.declared.mode.Cause.TheVariants.{Exit, Illegal, Fetch, Target, Address, Misaligned, Call, Break}
+use Rattle.wt_proto.specs.declared.mode.Mode.{Mode}
+use Rattle.wt_proto.specs.declared.mode.Mode.TheVariants.{Running, Waiting, InBarrier, Stopped}
 use Rattle.node.specs.NodeState.{NodeState}
 use Rattle.node.specs.Event.{step_time}
 use Rattle.wwt_run.specs.declared.head.Outcome.{Outcome}
 use Rattle.wwt_run.specs.declared.head.Outcome.TheVariants.{Finished, Budget, EventLimit, Stalled}
 use Rattle.wwt_run.specs.declared.head.Head.{Head}
 use Rattle.wwt_run.specs.declared.totals.Totals.{Totals}
-use Rattle.wwt_run.specs.Text.{line_end, named, hex, hex_pairs_of}
+use Rattle.wt_text.specs.Text.{line_end, counter_of, hex_of, hex_pairs_of}
 
 abbrev pub outcome_text_of : Outcome → List ℕ
 outcome_text_of Finished = codes "finished"
@@ -23,34 +23,34 @@ outcome_text_of Stalled = codes "stalled"
 
 abbrev pub cause_text : Cause → List ℕ
 cause_text (Exit code) = codes "exit " ++ decimal code
-cause_text (Illegal word) = codes "illegal " ++ hex word
-cause_text (Fetch address) = codes "fetch " ++ hex address
-cause_text (Target address) = codes "target " ++ hex address
-cause_text (Address address) = codes "address " ++ hex address
-cause_text (Misaligned address) = codes "misaligned " ++ hex address
+cause_text (Illegal word) = codes "illegal " ++ hex_of word
+cause_text (Fetch address) = codes "fetch " ++ hex_of address
+cause_text (Target address) = codes "target " ++ hex_of address
+cause_text (Address address) = codes "address " ++ hex_of address
+cause_text (Misaligned address) = codes "misaligned " ++ hex_of address
 cause_text (Call number) = codes "call " ++ decimal number
 cause_text Break = codes "break"
 
 -- what a processor does; a processor that waits for a block shows the block's address
 abbrev pub state_text : MachineParts → Mode → List ℕ
 state_text machine Running = codes "running"
-state_text machine (Waiting block exclusive) = codes "waiting " ++ hex (block_address machine block)
+state_text machine (Waiting block exclusive) = codes "waiting " ++ hex_of (block_address machine block)
 state_text machine InBarrier = codes "barrier"
 state_text machine (Stopped cause) = cause_text cause
 
 abbrev pub event_counts_of : Totals → List ℕ
 event_counts_of counts =
-    named (codes "steps") counts.steps ++ named (codes "messages") counts.messages ++ named (codes "done") counts.done
+    counter_of (codes "steps") counts.steps ++ counter_of (codes "messages") counts.messages ++ counter_of (codes "done") counts.done
 
 abbrev pub cache_counts_of : Totals → List ℕ
 cache_counts_of counts =
-    named (codes "hits") counts.hits ++ named (codes "misses") counts.misses ++ named (codes "upgrades") counts.upgrades
-    ++ named (codes "replaced") counts.replaced ++ named (codes "checkins") counts.checkins ++ named (codes "invs") counts.invs
+    counter_of (codes "hits") counts.hits ++ counter_of (codes "misses") counts.misses ++ counter_of (codes "upgrades") counts.upgrades
+    ++ counter_of (codes "replaced") counts.replaced ++ counter_of (codes "checkins") counts.checkins ++ counter_of (codes "invs") counts.invs
 
 abbrev pub message_counts_of : Totals → List ℕ
 message_counts_of counts =
-    named (codes "traps") counts.traps ++ named (codes "trap_cycles") counts.trap_cycles
-    ++ named (codes "barriers") counts.barriers ++ named (codes "stray") counts.stray ++ named (codes "sent") counts.sent
+    counter_of (codes "traps") counts.traps ++ counter_of (codes "trap_cycles") counts.trap_cycles
+    ++ counter_of (codes "barriers") counts.barriers ++ counter_of (codes "stray") counts.stray ++ counter_of (codes "sent") counts.sent
 
 -- the counters in their order, each as its name and its number
 abbrev pub counts_text : Totals → List ℕ
@@ -83,7 +83,7 @@ output_text (byte ∷ bytes) = codes " " ++ hex_pairs_of (byte ∷ bytes)
 -- what a node's processor does, where, and when
 abbrev pub processor_text : MachineParts → NodeState → List ℕ
 processor_text machine node =
-    state_text machine node.mode ++ (codes " pc " ++ hex node.pc) ++ (codes " clock " ++ decimal (step_time node))
+    state_text machine node.mode ++ (codes " pc " ++ hex_of node.pc) ++ (codes " clock " ++ decimal (step_time node))
 
 -- the three lines of the node at a place
 abbrev pub node_line_of : MachineParts → ℕ → NodeState → List ℕ

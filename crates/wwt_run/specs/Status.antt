@@ -2,9 +2,9 @@
 use Rattle.std.specs.Prelude.{ℕ, ◌++◌, List, Bool, false, codes, ◌==◌, if◌then◌else◌}
 use Rattle.std.specs.List.{list_all}
 use Rattle.wt_params.specs.declared.parts.MachineParts.{MachineParts}
-use Rattle.node.specs.declared.mode.Cause.TheVariants.{Exit}
-use Rattle.node.specs.declared.mode.Mode.{Mode}
-use Rattle.node.specs.declared.mode.Mode.TheVariants.{Stopped}
+use Rattle.wt_proto.specs.declared.mode.Cause.TheVariants.{Exit}
+use Rattle.wt_proto.specs.declared.mode.Mode.{Mode}
+use Rattle.wt_proto.specs.declared.mode.Mode.TheVariants.{Stopped}
 use Rattle.node.specs.NodeState.{NodeState}
 use Rattle.wwt_run.specs.declared.head.Outcome.{Outcome}
 use Rattle.wwt_run.specs.declared.head.Outcome.TheVariants as outcomes
@@ -16,7 +16,7 @@ use Rattle.wwt_run.specs.declared.status.Status.{Status}
 use Rattle.wwt_run.specs.declared.status.Status.TheVariants.{Done, NodeFault, Usage, Budget, EventLimit, Stalled, BadMachine, BadImage, ReadFault, WriteFault, NoMemory}
 use Rattle.wwt_run.specs.World.{World}
 use Rattle.wwt_run.specs.Outcome.{outcome_of}
-use Rattle.wwt_run.specs.Text.{line_end, hex}
+use Rattle.wt_text.specs.Text.{line_end, hex_of}
 
 -- the exit status
 abbrev pub code_of : Status → ℕ
@@ -60,7 +60,7 @@ usage_text = codes "usage: run [--workers W] [--trace] [--memory] [--budget B] M
 
 abbrev pub image_text_of : ImageRefusal → List ℕ
 image_text_of TooLong = codes "too long"
-image_text_of (Outside address) = codes "outside " ++ hex address
+image_text_of (Outside address) = codes "outside " ++ hex_of address
 
 abbrev pub refusal_text : Refusal → List ℕ
 refusal_text refusals.Usage = usage_text

@@ -3,7 +3,6 @@
 
 mod flat;
 mod head;
-mod line;
 mod refusal;
 mod refuse;
 mod report;
@@ -13,6 +12,7 @@ mod top;
 mod totals;
 
 pub use refusal::{ImageRefusal, Refusal};
+pub use refuse::out_of_memory;
 pub use status::Status;
 pub use top::wwt_plain;
 

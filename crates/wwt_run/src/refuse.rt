@@ -2,12 +2,12 @@ ghost use Rattle.std.specs.Prelude.{◌≡◌, ◌++◌, IfOk, OnOk};
 ghost use Rattle.wwt_run.specs.Status.{error_line, image_text_of, status_of_refusal};
 ghost use Rattle.wwt_run.specs.Answer.{Tells};
 
-use crate::line::Line;
 use crate::refusal::{ImageRefusal, Refusal};
 use crate::status::Status;
 use std::alloc::Global;
 use wt_outside::Sink;
 use wt_params::NoMemory;
+use wt_text::Line;
 
 const USAGE: &[u8] =
     b"wwt: usage: run [--workers W] [--trace] [--memory] [--budget B] MACHINE, check MACHINE, load NUMBER [--workers W], dis IMAGE, flat\n";
@@ -23,8 +23,16 @@ pub fn refuse<E: Sink>(alloc: Global, refusal: Refusal, err: &mut E) -> Status
         Refusal::Read => say(Refusal::Read, b"wwt: cannot read -\n", err),
         Refusal::Image { refusal } => refuse_image(alloc, refusal, err),
         Refusal::Write => say(Refusal::Write, b"wwt: write failed\n", err),
-        Refusal::Memory => say(Refusal::Memory, b"wwt: out of memory\n", err),
+        Refusal::Memory => out_of_memory(err),
     }
+}
+
+/// Tells want of memory, where not even the words of the command line could be had.
+#[tactic(auto, unfolding(crate::specs::Status::error_line))]
+pub fn out_of_memory<E: Sink>(err: &mut E) -> Status
+    ensures { Tells Refusal.Memory result (E.faults err.old) (E.faults err.new) (E.written err.old) (E.written err.new) }
+{
+    say(Refusal::Memory, b"wwt: out of memory\n", err)
 }
 
 #[tactic(auto, unfolding(crate::specs::Status::error_line))]
@@ -33,7 +41,7 @@ fn refuse_image<E: Sink>(alloc: Global, refusal: ImageRefusal, err: &mut E) -> S
 {
     match image_line(alloc, refusal) {
         Ok(line) => say(Refusal::Image { refusal }, line.as_bytes(), err),
-        Err(NoMemory) => say(Refusal::Memory, b"wwt: out of memory\n", err),
+        Err(NoMemory) => out_of_memory(err),
     }
 }
 
@@ -53,7 +61,7 @@ fn image_text(line: &mut Line, refusal: ImageRefusal) -> Result<(), NoMemory>
 {
     match refusal {
         ImageRefusal::TooLong => line.text(b"too long"),
-        ImageRefusal::Outside { address } => line.entry_hex(b"outside ", address as u64),
+        ImageRefusal::Outside { address } => line.entry_hex(b"outside ", address),
     }
 }
 

@@ -1,14 +1,16 @@
 ghost use Rattle.std.specs.Prelude.{◌≡◌, ◌<◌, [], ◌∷◌, ◌++◌, length, codes, decimal, IfOk, OnOk};
 ghost use Rattle.node.specs.Event.{step_time};
-ghost use Rattle.wwt_run.specs.Text.{line_end};
+ghost use Rattle.node.specs.NodeState.{WaitsForABlock};
+ghost use Rattle.wt_text.specs.Text.{line_end};
 ghost use Rattle.wwt_run.specs.Report.{outcome_text_of, cause_text, state_text, processor_text, counts_text, event_counts_of, cache_counts_of, message_counts_of, output_text, node_line_of, count_line_of, out_line_of, total_line_of, report_lines};
 
 use crate::head::{Head, Outcome};
-use crate::line::Line;
+use wt_text::Line;
 use crate::totals::{Totals, totals_of_one};
-use node::{Cause, Counters, Mode, Node};
+use node::{Counters, Node};
 use std::alloc::Global;
 use wt_params::{Machine, NoMemory};
+use wt_proto::{Cause, Mode};
 
 /// The lines of the report of a machine of one node.
 pub fn report_alone(
@@ -81,7 +83,7 @@ fn processor(line: &mut Line, machine: &Machine, node: &Node) -> Result<(), NoMe
     ensures { OnOk result (line.new ≡ line.old ++ processor_text machine.now node.now.state) }
 {
     state(line, machine, node.mode())?;
-    line.entry_hex(b" pc ", node.pc() as u64)?;
+    line.entry_hex(b" pc ", node.pc())?;
     line.entry(b" clock ", clock(node) as u128)
 }
 
@@ -93,6 +95,7 @@ fn clock(node: &Node) -> u64
 }
 
 fn state(line: &mut Line, machine: &Machine, mode: &Mode) -> Result<(), NoMemory>
+    requires { WaitsForABlock machine.now mode.now }
     ensures { OnOk result (line.new ≡ line.old ++ state_text machine.now mode.now) }
 {
     match *mode {
@@ -100,10 +103,7 @@ fn state(line: &mut Line, machine: &Machine, mode: &Mode) -> Result<(), NoMemory
         Mode::Waiting {
             block,
             exclusive: _,
-        } => {
-            let address = 0x8000_0000 + block as u64 * machine.block_bytes();
-            line.entry_hex(b"waiting ", address)
-        }
+        } => line.entry_hex(b"waiting ", machine.block_address(block)),
         Mode::InBarrier => line.text(b"barrier"),
         Mode::Stopped { cause } => stop(line, cause),
     }
@@ -114,11 +114,11 @@ fn stop(line: &mut Line, cause: Cause) -> Result<(), NoMemory>
 {
     match cause {
         Cause::Exit { code } => line.entry(b"exit ", code as u128),
-        Cause::Illegal { word } => line.entry_hex(b"illegal ", word as u64),
-        Cause::Fetch { address } => line.entry_hex(b"fetch ", address as u64),
-        Cause::Target { address } => line.entry_hex(b"target ", address as u64),
-        Cause::Address { address } => line.entry_hex(b"address ", address as u64),
-        Cause::Misaligned { address } => line.entry_hex(b"misaligned ", address as u64),
+        Cause::Illegal { word } => line.entry_hex(b"illegal ", word),
+        Cause::Fetch { address } => line.entry_hex(b"fetch ", address),
+        Cause::Target { address } => line.entry_hex(b"target ", address),
+        Cause::Address { address } => line.entry_hex(b"address ", address),
+        Cause::Misaligned { address } => line.entry_hex(b"misaligned ", address),
         Cause::Call { number } => line.entry(b"call ", number as u128),
         Cause::Break => line.text(b"break"),
     }

@@ -1,13 +1,15 @@
 ghost use Rattle.std.specs.Prelude.{◌≡◌, ℕ, ◌+◌, ◌^◌, ◌<◌, ◌≤◌, [], ◌∷◌, OnOk, IfOk, IfSome};
+ghost use Rattle.discrete_events.specs.Serial.{final};
 ghost use Rattle.node.specs.NodeState.{events_of};
+ghost use Rattle.node.specs.Event.{wind_tunnel};
 ghost use Rattle.wwt_run.specs.World.{alone};
-ghost use Rattle.wwt_run.specs.Serial.{final};
 ghost use Rattle.wwt_run.specs.Outcome.{head_of, last_time_of};
 ghost use Rattle.wwt_run.specs.Alone.{due_in, world_of, kept_end_after, quanta_after, outcome_alone};
 
 use crate::head::{Head, Outcome};
-use node::{Mode, Node};
+use node::Node;
 use wt_params::{Machine, NoMemory};
+use wt_proto::Mode;
 
 /// The quanta of a run so far.
 #[derive(Clone, Copy)]
@@ -38,9 +40,9 @@ impl Quanta {
 pub fn run_alone(machine: &Machine, node: &mut Node) -> Result<Head, NoMemory>
     requires machine { node.old.machine ≡ machine.now }
     requires one { machine.now.nodes ≡ 1 }
-    ensures head { IfOk result (λ head. head ≡ head_of machine.now (final machine.now (alone node.old.state))) }
+    ensures head { IfOk result (λ head. head ≡ head_of machine.now (final (wind_tunnel machine.now) (alone node.old.state))) }
     ensures kept { node.new.machine ≡ node.old.machine }
-    ensures nodes { OnOk result ((final machine.now (alone node.old.state)).nodes ≡ node.new.state ∷ []) }
+    ensures nodes { OnOk result ((final (wind_tunnel machine.now) (alone node.old.state)).nodes ≡ node.new.state ∷ []) }
 {
     let mut quanta = Quanta {
         kept_end: 0,

@@ -1,9 +1,10 @@
 ghost use Rattle.std.specs.Prelude.{◌≡◌, []};
 ghost use Rattle.wt_params.specs.Machine.{flat_machine};
+ghost use Rattle.discrete_events.specs.Serial.{serial};
+ghost use Rattle.node.specs.Event.{wind_tunnel};
 ghost use Rattle.wwt_run.specs.Alone.{world_of};
 ghost use Rattle.wwt_run.specs.Case.{output_of_run, status_of_run};
 ghost use Rattle.wwt_run.specs.Examples.{print_a, print_a_report, empty_report, endless_jump, after_steps};
-ghost use Rattle.wwt_run.specs.Serial.{serial};
 ghost use Rattle.wwt_run.specs.World.{start_flat};
 
 use super::*;
@@ -51,7 +52,7 @@ fn definitions_give_the_worked_reports()
     ensures print_a_status { status_of_run print_a ≡ Status.Done }
     ensures empty { output_of_run [] ≡ empty_report }
     ensures empty_status { status_of_run [] ≡ Status.NodeFault }
-    ensures jump { serial flat_machine 3 (start_flat flat_machine endless_jump) ≡ world_of (after_steps endless_jump 3) 3 3 }
+    ensures jump { serial (wind_tunnel flat_machine) 3 (start_flat flat_machine endless_jump) ≡ world_of (after_steps endless_jump 3) 3 3 }
     ensures jump_place { (after_steps endless_jump 3).pc ≡ 0 }
     ensures jump_time { (after_steps endless_jump 3).ready ≡ 3 }
 {}
@@ -128,6 +129,36 @@ fn refusals_say_one_line(rt: HostRuntime) -> Result<(), Fail> {
         assert_eq!(rt; ran.out.bytes(), b"".as_slice());
         assert_eq!(rt; ran.err.bytes(), line);
     }
+    Ok(())
+}
+
+#[test]
+fn input_that_cannot_be_read_is_told(rt: HostRuntime) -> Result<(), Fail> {
+    let alloc = rt.alloc();
+    let mut words = Vec::new(alloc);
+    words.push(String::from_str(alloc, "flat")?)?;
+    let mut files = Vec::new(alloc);
+    files.push((String::from_str(alloc, "-")?, PRINT_A.to_vec(alloc)?))?;
+    // A read that fails, and a name that is missing.
+    let mut stores = Vec::new(alloc);
+    stores.push(MemStore::new(alloc, files, [0].to_vec(alloc)?))?;
+    stores.push(MemStore::new(alloc, Vec::new(alloc), Vec::new(alloc)))?;
+    for mut store in stores {
+        let mut out = MemSink::new(alloc, 4096, Vec::new(alloc), 0)?;
+        let mut err = MemSink::new(alloc, 4096, Vec::new(alloc), 0)?;
+        let status = wwt_plain(alloc, &words, &mut store, &mut out, &mut err);
+        assert_eq!(rt; status, Some(Status::ReadFault));
+        assert_eq!(rt; out.bytes(), b"".as_slice());
+        assert_eq!(rt; err.bytes(), b"wwt: cannot read -\n".as_slice());
+    }
+    Ok(())
+}
+
+#[test]
+fn want_of_memory_is_told(rt: HostRuntime) -> Result<(), Fail> {
+    let mut err = MemSink::new(rt.alloc(), 4096, Vec::new(rt.alloc()), 0)?;
+    assert_eq!(rt; out_of_memory(&mut err), Status::NoMemory);
+    assert_eq!(rt; err.bytes(), b"wwt: out of memory\n".as_slice());
     Ok(())
 }
 

@@ -1,5 +1,6 @@
 use Rattle.std.proofs.Common.{ap, subst, ◌∙◌}
-use Rattle.wt_outside.specs.Growth.{Grows, prefix_all}
+use Rattle.wt_outside.specs.Growth.{Grows}
+use Rattle.wt_outside.proofs.GrowthLemmas.{prefix_all}
 use Rattle.wwt_run.specs.Report.{joined}
 use Rattle.wwt_run.specs.Case.{output_of_run}
 use Rattle.wwt_run.proofs.flat.run_flat.Goals as goal

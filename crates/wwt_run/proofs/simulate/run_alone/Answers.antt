@@ -1,6 +1,7 @@
 use Rattle.std.proofs.Common.{◌≡◌, sym, ap, ◌∙◌}
 use Rattle.node.specs.NodeState.{NodeModel}
-use Rattle.node.specs.Event.{Step, react}
+use Rattle.discrete_events.specs.Simulation.{Step}
+use Rattle.node.specs.Event.{react}
 use Rattle.wwt_run.specs.Outcome.{head_of}
 use Rattle.wwt_run.specs.World.{World}
 use Rattle.wwt_run.proofs.AloneLemmas.{begun, gone_on, ended}
@@ -14,8 +15,8 @@ loop-time-preserved c =
     let m = c.args.machine.now in
     let now = c.loop-time.node.state in
     let stepped = c.in_ok-handle_step.ensures in
-    let reacts : c.handle_step.new.self.state ≡ react m now Step =
-    ap (λ (node : NodeModel). node.state) stepped.reacts ∙ ap (λ machine. react machine now Step) c.loop-time.invariant.machine in
+    let reacts : c.handle_step.new.self.state ≡ (react m now Step).0 =
+    ap (λ (node : NodeModel). node.state) stepped.reacts ∙ ap (λ machine. (react machine now Step).0) c.loop-time.invariant.machine in
     record {
       machine = stepped.machine ∙ c.loop-time.invariant.machine;
       run = gone_on m c.args.node.now.state now c.handle_step.new.self.state c.loop-time.quanta.kept_end c.loop-time.quanta.count

@@ -1,0 +1,14 @@
+pub mod Lists
+pub mod Keys
+pub mod Queues
+pub mod Events
+pub mod Stations
+pub mod FreeRuns
+pub mod Numbered
+pub mod Peel
+pub mod SerialRun
+pub mod RoundIsSerial
+pub mod Whole
+pub mod OnLists
+pub mod Computed
+pub mod Interleaving

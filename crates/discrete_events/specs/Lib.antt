@@ -1,0 +1,10 @@
+pub mod Simulation
+pub mod World
+pub mod Serial
+pub mod Round
+pub mod Core
+pub mod Laws
+pub mod Theorems
+pub mod KeyTimes
+pub mod Couriers
+pub mod CourierLaws

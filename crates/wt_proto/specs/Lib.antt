@@ -1,0 +1,4 @@
+pub mod KeyOrder
+pub mod Blocks
+pub mod Messages
+pub mod NodeSets
