@@ -1,4 +1,4 @@
-use Rattle.std.proofs.Common.{◌≡◌, ℕ, List, true, false, cond, Ok, Err, Some, sym, ap, ◌∙◌, inr, rules}
+use Rattle.std.proofs.Common.{◌≡◌, ℕ, List, true, false, Ok, Err, Some, sym, ap, ◌∙◌, inr, rules}
 use Rattle.std.specs.Prelude.{codes}
 use Rattle.std.specs.Str.{bytes_eq}
 use Rattle.machine_json.specs.declared.fault.MachineFault.TheVariants.{Kind}
