@@ -7,7 +7,8 @@ use Rattle.wt_params.specs.Machine.{shared_base}
 use Rattle.priv_mem.specs.Memory.{overwritten}
 use Rattle.elf_image.specs.declared.image.Image.{Image}
 use Rattle.elf_image.specs.declared.image.Segment.{Segment}
-use Rattle.image_loader.specs.Images.{LoadedImages, HoldsItsBytes, image_of}
+use Rattle.elf_image.specs.Sizes.{HoldsItsBytes}
+use Rattle.image_loader.specs.Images.{LoadedImages, image_of}
 
 -- all bytes of a segment: its own, and zeros up to its size
 abbrev pub content_of : Segment → List ℕ
