@@ -56,12 +56,19 @@ fn each_fault(rt: HostRuntime) -> Result<(), Fail> {
         assert_eq!(rt; answer(alloc, text)?.as_str(), wanted);
     }
     // Members after `"version":1,"nodes":2,"images":[{"hex":""}]`, of which a later one counts, and the answer.
-    let rows: [(&[u8], &[u8]); 56] = [
+    let rows: [(&[u8], &[u8]); 60] = [
         (b"\"latency\":100", b"ok"),
         (b"\"zeta\":1,\"alpha\":1", b"unknown alpha"),
         (b"\"Nodes\":1", b"unknown Nodes"),
         (b"\"nodes\":\"2\"", b"kind nodes"),
         (b"\"nodes\":null", b"kind nodes"),
+        (b"\"nodes\":-1", b"kind nodes"),
+        (b"\"nodes\":2.0", b"kind nodes"),
+        (b"\"nodes\":18446744073709551616", b"kind nodes"),
+        (
+            b"\"nodes\":18446744073709551615",
+            b"range nodes 18446744073709551615",
+        ),
         (b"\"nodes\":0", b"range nodes 0"),
         (b"\"nodes\":33", b"range nodes 33"),
         (b"\"nodes\":32", b"ok"),
