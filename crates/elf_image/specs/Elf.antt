@@ -104,6 +104,10 @@ is_less header = is_loaded header && nat_lt header.memory_bytes header.file_byte
 abbrev pub IsInside : ℕ → ProgramHeader → Type 0
 IsInside length header = IsTrue (is_loaded header) → header.offset + header.file_bytes ≤ length
 
+-- a segment has no fewer bytes in memory than in the file
+abbrev pub HasRoom : ProgramHeader → Type 0
+HasRoom header = IsTrue (is_loaded header) → header.file_bytes ≤ header.memory_bytes
+
 -- ---- what refuses a file
 
 abbrev pub is_short : List ℕ → Bool

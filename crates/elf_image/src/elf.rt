@@ -1,6 +1,7 @@
 ghost use Rattle.std.specs.Prelude.{◌≡◌, ◌≤◌, ◌+◌, ◌⊎◌, length, filter, map, All, IfOk, IfErr, OnOk, Some, None};
 ghost use Rattle.std.specs.List.{list_any};
-ghost use Rattle.elf_image.specs.Elf.{elf_of, program_tests, first_fault, headers_of, is_loaded, is_dynamic_header, is_outside, is_less, IsInside, segment_of};
+ghost use Rattle.elf_image.specs.Elf.{elf_of, program_tests, first_fault, headers_of, is_loaded, is_dynamic_header, is_outside, is_less, IsInside, HasRoom, segment_of};
+ghost use Rattle.elf_image.specs.Sizes.{FitsItsSize, HoldsItsBytes};
 
 use crate::fault::ImageFault;
 use crate::header::{E_ENTRY, check_header, read_program_headers};
@@ -14,6 +15,7 @@ use std::alloc::{AllocError, Global};
 pub fn read_elf(alloc: Global, bytes: &[u8]) -> Result<Image, ImageFault>
     ensures ok { IfOk result (λ image. elf_of bytes.now ≡ Ok image) }
     ensures fault { IfErr result (λ fault. (fault ≡ ImageFault.NoMemory) ⊎ (elf_of bytes.now ≡ Err fault)) }
+    ensures sizes { IfOk result HoldsItsBytes }
 {
     check_header(bytes)?;
     let headers = read_program_headers(alloc, bytes)?;
@@ -30,6 +32,7 @@ fn check_program_headers(headers: &[ProgramHeader], bytes: &[u8]) -> Result<(), 
     ensures ok { OnOk result (first_fault program_tests bytes.now ≡ None) }
     ensures fault { IfErr result (λ fault. first_fault program_tests bytes.now ≡ Some fault) }
     ensures inside { OnOk result (All (IsInside (length bytes.now)) headers.now) }
+    ensures sizes { OnOk result (All HasRoom headers.now) }
 {
     if is_dynamic(headers) {
         return Err(ImageFault::Dynamic);
@@ -80,8 +83,10 @@ fn load_segments(
     headers: &[ProgramHeader],
     bytes: &[u8],
 ) -> Result<Vec<Segment>, AllocError>
-    requires { All (IsInside (length bytes.now)) headers.now }
-    ensures { IfOk result (λ segments. segments.items ≡ map (segment_of bytes.now) (filter is_loaded headers.now)) }
+    requires inside { All (IsInside (length bytes.now)) headers.now }
+    requires sizes { All HasRoom headers.now }
+    ensures value { IfOk result (λ segments. segments.items ≡ map (segment_of bytes.now) (filter is_loaded headers.now)) }
+    ensures sizes { IfOk result (λ segments. All FitsItsSize segments.items) }
 {
     let mut segments = Vec::new(alloc);
     for header in headers {
@@ -94,8 +99,10 @@ fn load_segments(
 
 /// The segment of a program header, with a copy of its bytes of the file.
 fn load_segment(alloc: Global, header: &ProgramHeader, bytes: &[u8]) -> Result<Segment, AllocError>
-    requires { header.now.offset + header.now.file_bytes ≤ length bytes.now }
-    ensures { IfOk result (λ segment. segment ≡ segment_of bytes.now header.now) }
+    requires inside { header.now.offset + header.now.file_bytes ≤ length bytes.now }
+    requires size { header.now.file_bytes ≤ header.now.memory_bytes }
+    ensures value { IfOk result (λ segment. segment ≡ segment_of bytes.now header.now) }
+    ensures size { IfOk result FitsItsSize }
 {
     let start = header.offset as usize;
     let end = start + header.file_bytes as usize;

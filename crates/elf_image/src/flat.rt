@@ -1,5 +1,6 @@
 ghost use Rattle.std.specs.Prelude.{◌≡◌, ◌^◌, ◌<◌, ◌%◌, IfOk, vec_len};
 ghost use Rattle.elf_image.specs.Flat.{flat_image};
+ghost use Rattle.elf_image.specs.Sizes.{HoldsItsBytes};
 
 use crate::image::{Bytes, Image, Segment, Segments};
 use std::alloc::Global;
@@ -9,7 +10,8 @@ use wt_params::NoMemory;
 pub fn read_flat(alloc: Global, bytes: Vec<u8>, at: u32) -> Result<Image, NoMemory>
     requires length { vec_len bytes < 2 ^ 32 }
     requires aligned { at % 4 ≡ 0 }
-    ensures { IfOk result (λ image. image ≡ flat_image bytes.items at) }
+    ensures value { IfOk result (λ image. image ≡ flat_image bytes.items at) }
+    ensures sizes { IfOk result HoldsItsBytes }
 {
     let size = bytes.len() as u32;
     let mut segments = Vec::new(alloc);

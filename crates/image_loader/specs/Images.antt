@@ -1,5 +1,5 @@
 -- The images of a machine's nodes. Own.
-use Rattle.std.specs.Prelude.{◌≡◌, ℕ, ◌≤◌, ◌==◌, if◌then◌else◌, List, length, All, Option, slice_get}
+use Rattle.std.specs.Prelude.{◌≡◌, ℕ, ◌==◌, if◌then◌else◌, List, length, Option, slice_get}
 use Rattle.wt_params.specs.declared.parts.MachineParts.{MachineParts}
 use Rattle.elf_image.specs.declared.image.Image.{Image}
 
@@ -27,10 +27,6 @@ pub record IsFor (machine : MachineParts) (loaded : LoadedImages) : Type 0 where
   pub private_bytes : loaded.private_bytes ≡ machine.private_bytes
   pub block_bytes : loaded.block_bytes ≡ machine.block_bytes
   pub blocks : loaded.blocks ≡ machine.blocks
-
--- no segment has more bytes of its own than its size
-abbrev pub HoldsItsBytes : Image → Type 0
-HoldsItsBytes image = All (λ segment. length segment.bytes ≤ segment.size) image.segments
 
 -- the image that serves a node: the only one, or its own
 abbrev pub image_of : LoadedImages → ℕ → Option Image

@@ -7,22 +7,23 @@ use Rattle.wt_params.specs.Machine.{shared_base}
 use Rattle.priv_mem.specs.Memory.{overwritten}
 use Rattle.elf_image.specs.declared.image.Image.{Image}
 use Rattle.elf_image.specs.declared.image.Segment.{Segment}
-use Rattle.image_loader.specs.Images.{LoadedImages, HoldsItsBytes, image_of}
+use Rattle.elf_image.specs.Sizes.{HoldsItsBytes}
+use Rattle.image_loader.specs.Images.{LoadedImages, image_of}
 
 -- all bytes of a segment: its own, and zeros up to its size
 abbrev pub content_of : Segment → List ℕ
 content_of segment = segment.bytes ++ replicate (segment.size - length segment.bytes) 0
 
 -- a memory that begins at an address, after a segment; one that begins elsewhere leaves it as it is
-abbrev pub filled_by : ℕ → List ℕ → Segment → List ℕ
-filled_by base memory segment =
+abbrev pub with_segment : ℕ → List ℕ → Segment → List ℕ
+with_segment base memory segment =
     if nat_le base segment.at && nat_lt segment.at (base + length memory)
     then overwritten memory (segment.at - base) (content_of segment)
     else memory
 
 -- so many zeros that begin at an address, after segments in their order
-abbrev pub filled_with : ℕ → ℕ → List Segment → List ℕ
-filled_with base size segments = fold (filled_by base) (replicate size 0) segments
+abbrev pub with_segments : ℕ → ℕ → List Segment → List ℕ
+with_segments base size segments = fold (with_segment base) (replicate size 0) segments
 
 -- the segments of the image that serves a node
 abbrev pub segments_of : LoadedImages → ℕ → List Segment
@@ -37,11 +38,11 @@ shared_bytes loaded = loaded.blocks * loaded.block_bytes
 
 -- a node's private memory at the start
 abbrev pub private_of : LoadedImages → ℕ → List ℕ
-private_of loaded node = filled_with 0 loaded.private_bytes (segments_of loaded node)
+private_of loaded node = with_segments 0 loaded.private_bytes (segments_of loaded node)
 
 -- all of shared memory at the start, from its first block on
 abbrev pub shared_of : LoadedImages → List ℕ
-shared_of loaded = filled_with shared_base (shared_bytes loaded) (all_segments loaded)
+shared_of loaded = with_segments shared_base (shared_bytes loaded) (all_segments loaded)
 
 -- the memory of a block at the start, which its home keeps
 abbrev pub block_of : LoadedImages → ℕ → List ℕ

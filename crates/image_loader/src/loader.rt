@@ -1,6 +1,7 @@
 ghost use Rattle.std.specs.Prelude.{◌≡◌, ◌⊎◌, ◌*◌, ◌<◌, ◌^◌, All, IfNone, IfOk, IfErr, Some, None, vec_len, length};
 ghost use Rattle.image_loader.specs.Faults.{load_fault, image_fault, segments_fault, memory_end, outside_of};
-ghost use Rattle.image_loader.specs.Images.{HoldsItsBytes, loaded_with};
+ghost use Rattle.image_loader.specs.Images.{loaded_with};
+ghost use Rattle.elf_image.specs.Sizes.{HoldsItsBytes};
 ghost use Rattle.image_loader.specs.Loading.{IsProgram, IsPlaced};
 ghost use Rattle.wt_params.specs.Machine.{IsMachine};
 

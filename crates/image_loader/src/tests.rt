@@ -1,6 +1,6 @@
 ghost use Rattle.std.specs.Prelude.{◌≡◌, ◌∷◌, [], IfOk};
 ghost use Rattle.image_loader.specs.Examples.{two_images};
-ghost use Rattle.image_loader.specs.Images.{HoldsItsBytes};
+ghost use Rattle.elf_image.specs.Sizes.{HoldsItsBytes};
 ghost use Rattle.image_loader.specs.Loading.{private_of, shared_of, block_of};
 
 use super::*;

@@ -1,5 +1,5 @@
 -- Faults of steps, one after the other.
-use Rattle.std.proofs.Common.{◌≡◌, ◌∙◌, Some, None, Option, Result, Ok, Err, sym, ap, inl, inr}
+use Rattle.std.proofs.Common.{◌≡◌, ◌∙◌, None, Option, Result, Ok, sym, ap, inl, inr}
 use Rattle.std.specs.Option.{option_or}
 use Rattle.machine_json.specs.declared.fault.MachineFault.{MachineFault}
 use Rattle.machine_json.specs.Answers.{IsFaultOf, IsRefusalOf, unless, and_then}

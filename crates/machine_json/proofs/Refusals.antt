@@ -1,5 +1,5 @@
 -- Where the machine's own refusal stands among the tests of a description's numbers.
-use Rattle.std.proofs.Common.{◌≡◌, ◌≢◌, ◌⊎◌, ℕ, List, [], ◌∷◌, ◌++◌, Bool, true, false, not, cond, Some, None, Option, Result, Ok, Err, refl, sym, ap, ◌∙◌, inl, inr}
+use Rattle.std.proofs.Common.{◌≡◌, ◌≢◌, ◌⊎◌, ℕ, List, [], ◌∷◌, Bool, true, false, not, cond, Some, None, Option, Ok, Err, refl, sym, ap, ◌∙◌, inl, inr}
 use Rattle.std.specs.Prelude.{find}
 use Rattle.std.specs.Option.{option_or}
 use Rattle.wt_params.specs.declared.parts.Field.{Field}
@@ -7,7 +7,6 @@ use Rattle.wt_params.specs.declared.parts.MachineParts.{MachineParts}
 use Rattle.wt_params.specs.declared.parts.ParamFault.{ParamFault}
 use Rattle.wt_params.specs.Fields.{fields, is_in_range, number_of, key_of, fault_at, fault_among, fault_of, machine_of}
 use Rattle.serde_json.specs.Data.{Data}
-use Rattle.machine_json.specs.declared.fault.MachineFault.{MachineFault}
 use Rattle.machine_json.specs.declared.fault.MachineFault.TheVariants.{Range}
 use Rattle.machine_json.specs.Numbers.{number_fault, range_fault, fields_fault, IsFirstAmong}
 

@@ -1,5 +1,5 @@
 -- The names of an object's members, and the first of them outside a table.
-use Rattle.std.proofs.Common.{◌≡◌, ℕ, List, [], ◌∷◌, Bool, true, false, not, cond, Some, None, Option, option_map, map, refl, sym, ap, ◌∙◌}
+use Rattle.std.proofs.Common.{◌≡◌, List, [], ◌∷◌, Bool, true, false, not, cond, Some, Option, option_map, map, refl, sym, ap, ◌∙◌}
 use Rattle.std.specs.Prelude.{find, String, string_bytes}
 use Rattle.std.specs.declared.alloc.Global.{Global}
 use Rattle.std.specs.Map.{keys_of}

@@ -1,5 +1,5 @@
 -- The fields of a machine, in the two parts in which a description tells them.
-use Rattle.std.proofs.Common.{◌≡◌, List, take, drop, refl, ap}
+use Rattle.std.proofs.Common.{◌≡◌, List, take, drop, ap}
 use Rattle.wt_params.specs.declared.parts.Field.{Field}
 use Rattle.wt_params.specs.Fields.{fields}
 use Rattle.serde_json.specs.Data.{Data}

@@ -1,8 +1,7 @@
 -- What a text describes, or the first fault that refuses it. Own, over `serde_json`'s definition of what it reads.
-use Rattle.std.specs.Prelude.{ℕ, Bool, if◌then◌else◌, List, Option, Some, None, option_map, Result, Ok, Err}
+use Rattle.std.specs.Prelude.{ℕ, if◌then◌else◌, List, Option, Some, None, option_map, Result, Ok, Err}
 use Rattle.std.specs.Option.{option_or}
 use Rattle.std.specs.Str.{is_utf8}
-use Rattle.wt_params.specs.declared.parts.MachineParts.{MachineParts}
 use Rattle.serde_json.specs.Data.{Data, Members}
 use Rattle.serde_json.specs.Find.{as_object}
 use Rattle.serde_json.specs.Read.{read}
@@ -45,18 +44,18 @@ numbers_fault description =
     option_or (own_fault description) (option_or (costs_fault description) (cost_fault description))
 
 -- what some data describe
-unfoldable pub described : Data → Result Description MachineFault
-described description =
+unfoldable pub description_in : Data → Result Description MachineFault
+description_in description =
     unless (keys_fault description)
     (unless (version_fault description)
     (unless (numbers_fault description)
     (and_then (images_of (parts_of description).nodes description)
     (λ images. Ok (record { machine = parts_of description; images = images })))))
 
-abbrev pub described_by : Option Data → Result Description MachineFault
-described_by None = Err Syntax
-described_by (Some description) = described description
+abbrev pub description_or_fault : Option Data → Result Description MachineFault
+description_or_fault None = Err Syntax
+description_or_fault (Some description) = description_in description
 
 -- what a text describes
 abbrev pub description_of : List ℕ → Result Description MachineFault
-description_of bytes = described_by (data_of bytes)
+description_of bytes = description_or_fault (data_of bytes)

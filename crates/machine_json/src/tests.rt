@@ -1,27 +1,34 @@
 use super::*;
-use std::alloc::Global;
+use std::alloc::{AllocError, Global};
 use std::test::Fail;
 
 /// The description of two nodes of which the second loads from shared memory.
 const SHARED_LOAD: &str =
     "{\"version\":1,\"nodes\":2,\"private_bytes\":4096,\"block_bytes\":16,\"blocks\":4,\"sets\":2,\"ways\":1,\"latency\":100,\"self_latency\":10,\"images\":[{\"hex\":\"9308D00573000000\"},{\"file\":\"b.elf\",\"at\":8}]}";
 
+/// A word and a key after it.
+fn named(alloc: Global, word: &str, key: Key) -> Result<String, AllocError> {
+    let key = key.into_inner();
+    format!(in alloc; "{word} {key}")
+}
+
 /// What reading a description answers, as the line that tells of it.
-fn answer(alloc: Global, bytes: &[u8]) -> Result<String, Fail> {
-    Ok(match read_machine(alloc, bytes) {
-        Ok(_) => String::from_str(alloc, "ok")?,
-        Err(MachineFault::TooLong) => String::from_str(alloc, "too long")?,
-        Err(MachineFault::Syntax) => String::from_str(alloc, "syntax")?,
-        Err(MachineFault::NotObject) => String::from_str(alloc, "not an object")?,
-        Err(MachineFault::Unknown(key)) => format!(in alloc; "unknown {}", key.get())?,
-        Err(MachineFault::Missing(key)) => format!(in alloc; "missing {}", key.get())?,
-        Err(MachineFault::Kind(key)) => format!(in alloc; "kind {}", key.get())?,
+fn answer(alloc: Global, bytes: &[u8]) -> Result<String, AllocError> {
+    match read_machine(alloc, bytes) {
+        Ok(_) => String::from_str(alloc, "ok"),
+        Err(MachineFault::TooLong) => String::from_str(alloc, "too long"),
+        Err(MachineFault::Syntax) => String::from_str(alloc, "syntax"),
+        Err(MachineFault::NotObject) => String::from_str(alloc, "not an object"),
+        Err(MachineFault::Unknown(key)) => named(alloc, "unknown", key),
+        Err(MachineFault::Missing(key)) => named(alloc, "missing", key),
+        Err(MachineFault::Kind(key)) => named(alloc, "kind", key),
         Err(MachineFault::Range(key, value)) => {
-            format!(in alloc; "range {} {value}", key.get())?
+            let key = named(alloc, "range", key)?;
+            format!(in alloc; "{key} {value}")
         }
-        Err(MachineFault::Hex(image)) => format!(in alloc; "hex images.{image}")?,
-        Err(MachineFault::NoMemory) => String::from_str(alloc, "out of memory")?,
-    })
+        Err(MachineFault::Hex(image)) => format!(in alloc; "hex images.{image}"),
+        Err(MachineFault::NoMemory) => String::from_str(alloc, "out of memory"),
+    }
 }
 
 #[test]
@@ -49,106 +56,118 @@ fn each_fault(rt: HostRuntime) -> Result<(), Fail> {
         assert_eq!(rt; answer(alloc, text)?.as_str(), wanted);
     }
     // Members after `"version":1,"nodes":2,"images":[{"hex":""}]`, of which a later one counts, and the answer.
-    let rows: [(&str, &str); 56] = [
-        ("\"latency\":100", "ok"),
-        ("\"zeta\":1,\"alpha\":1", "unknown alpha"),
-        ("\"Nodes\":1", "unknown Nodes"),
-        ("\"nodes\":\"2\"", "kind nodes"),
-        ("\"nodes\":null", "kind nodes"),
-        ("\"nodes\":0", "range nodes 0"),
-        ("\"nodes\":33", "range nodes 33"),
-        ("\"nodes\":32", "ok"),
-        ("\"private_bytes\":4097", "range private_bytes 4097"),
-        ("\"block_bytes\":48", "range block_bytes 48"),
-        ("\"blocks\":65537", "range blocks 65537"),
-        ("\"latency\":100,\"quantum\":101", "range quantum 101"),
-        ("\"latency\":50,\"quantum\":100", "range quantum 100"),
-        ("\"latency\":50", "ok"),
-        ("\"ways\":8,\"sets\":1024", "range ways 8"),
-        ("\"ways\":4,\"sets\":1024", "ok"),
-        ("\"event_limit\":0", "range event_limit 0"),
-        ("\"budget\":1099511627777", "range budget 1099511627777"),
-        ("\"budget\":1099511627776", "ok"),
-        ("\"costs\":{\"zz\":1,\"aa\":2}", "unknown costs.aa"),
-        ("\"costs\":[]", "kind costs"),
-        ("\"costs\":{\"op\":0}", "range costs.op 0"),
-        ("\"costs\":{\"trap_each\":\"5\"}", "kind costs.trap_each"),
+    let rows: [(&[u8], &[u8]); 60] = [
+        (b"\"latency\":100", b"ok"),
+        (b"\"zeta\":1,\"alpha\":1", b"unknown alpha"),
+        (b"\"Nodes\":1", b"unknown Nodes"),
+        (b"\"nodes\":\"2\"", b"kind nodes"),
+        (b"\"nodes\":null", b"kind nodes"),
+        (b"\"nodes\":-1", b"kind nodes"),
+        (b"\"nodes\":2.0", b"kind nodes"),
+        (b"\"nodes\":18446744073709551616", b"kind nodes"),
         (
-            "\"costs\":{\"fill\":0,\"trap\":4097}",
-            "range costs.trap 4097",
+            b"\"nodes\":18446744073709551615",
+            b"range nodes 18446744073709551615",
         ),
-        ("\"op\":1", "unknown op"),
-        ("\"costs\":{\"costs.op\":1}", "unknown costs.costs.op"),
+        (b"\"nodes\":0", b"range nodes 0"),
+        (b"\"nodes\":33", b"range nodes 33"),
+        (b"\"nodes\":32", b"ok"),
+        (b"\"private_bytes\":4097", b"range private_bytes 4097"),
+        (b"\"block_bytes\":48", b"range block_bytes 48"),
+        (b"\"blocks\":65537", b"range blocks 65537"),
+        (b"\"latency\":100,\"quantum\":101", b"range quantum 101"),
+        (b"\"latency\":50,\"quantum\":100", b"range quantum 100"),
+        (b"\"latency\":50", b"ok"),
+        (b"\"ways\":8,\"sets\":1024", b"range ways 8"),
+        (b"\"ways\":4,\"sets\":1024", b"ok"),
+        (b"\"event_limit\":0", b"range event_limit 0"),
+        (b"\"budget\":1099511627777", b"range budget 1099511627777"),
+        (b"\"budget\":1099511627776", b"ok"),
+        (b"\"costs\":{\"zz\":1,\"aa\":2}", b"unknown costs.aa"),
+        (b"\"costs\":[]", b"kind costs"),
+        (b"\"costs\":{\"op\":0}", b"range costs.op 0"),
+        (b"\"costs\":{\"trap_each\":\"5\"}", b"kind costs.trap_each"),
+        (
+            b"\"costs\":{\"fill\":0,\"trap\":4097}",
+            b"range costs.trap 4097",
+        ),
+        (b"\"op\":1", b"unknown op"),
+        (b"\"costs\":{\"costs.op\":1}", b"unknown costs.costs.op"),
         // Each number whole before the next one, and the costs and the images last.
-        ("\"ways\":\"x\",\"nodes\":33", "range nodes 33"),
-        ("\"ways\":9,\"blocks\":\"x\"", "kind blocks"),
-        ("\"ways\":9,\"budget\":\"x\"", "range ways 9"),
-        ("\"costs\":7,\"budget\":0", "range budget 0"),
-        ("\"costs\":{\"aa\":1},\"budget\":0", "range budget 0"),
-        ("\"costs\":{\"aa\":1,\"op\":0}", "unknown costs.aa"),
-        ("\"images\":7,\"costs\":{\"op\":0}", "range costs.op 0"),
-        ("\"images\":7", "kind images"),
-        ("\"images\":[]", "range images 0"),
-        ("\"images\":[7,7,7]", "range images 3"),
-        ("\"images\":[7]", "kind images.0"),
-        ("\"images\":[{}]", "missing images.0.hex"),
+        (b"\"ways\":\"x\",\"nodes\":33", b"range nodes 33"),
+        (b"\"ways\":9,\"blocks\":\"x\"", b"kind blocks"),
+        (b"\"ways\":9,\"budget\":\"x\"", b"range ways 9"),
+        (b"\"costs\":7,\"budget\":0", b"range budget 0"),
+        (b"\"costs\":{\"aa\":1},\"budget\":0", b"range budget 0"),
+        (b"\"costs\":{\"aa\":1,\"op\":0}", b"unknown costs.aa"),
+        (b"\"images\":7,\"costs\":{\"op\":0}", b"range costs.op 0"),
+        (b"\"images\":7", b"kind images"),
+        (b"\"images\":[]", b"range images 0"),
+        (b"\"images\":[7,7,7]", b"range images 3"),
+        (b"\"images\":[7]", b"kind images.0"),
+        (b"\"images\":[{}]", b"missing images.0.hex"),
         (
-            "\"images\":[{\"hex\":7,\"file\":7}]",
-            "missing images.0.hex",
+            b"\"images\":[{\"hex\":7,\"file\":7}]",
+            b"missing images.0.hex",
         ),
-        ("\"images\":[{\"z\":1,\"y\":1}]", "unknown images.0.y"),
-        ("\"images\":[{\"hex\":7,\"format\":7}]", "kind images.0.hex"),
+        (b"\"images\":[{\"z\":1,\"y\":1}]", b"unknown images.0.y"),
         (
-            "\"images\":[{\"file\":7,\"format\":7}]",
-            "kind images.0.file",
-        ),
-        (
-            "\"images\":[{\"hex\":\"\",\"format\":7}]",
-            "unknown images.0.format",
+            b"\"images\":[{\"hex\":7,\"format\":7}]",
+            b"kind images.0.hex",
         ),
         (
-            "\"images\":[{\"file\":\"f\",\"format\":\"x\"}]",
-            "kind images.0.format",
+            b"\"images\":[{\"file\":7,\"format\":7}]",
+            b"kind images.0.file",
         ),
         (
-            "\"images\":[{\"file\":\"f\",\"format\":1,\"at\":2}]",
-            "kind images.0.format",
+            b"\"images\":[{\"hex\":\"\",\"format\":7}]",
+            b"unknown images.0.format",
         ),
         (
-            "\"images\":[{\"file\":\"f\",\"format\":\"flat\",\"at\":2}]",
-            "range images.0.at 2",
+            b"\"images\":[{\"file\":\"f\",\"format\":\"x\"}]",
+            b"kind images.0.format",
         ),
         (
-            "\"images\":[{\"file\":\"f\",\"format\":\"elf\",\"at\":\"\"}]",
-            "kind images.0.at",
+            b"\"images\":[{\"file\":\"f\",\"format\":1,\"at\":2}]",
+            b"kind images.0.format",
         ),
         (
-            "\"images\":[{\"hex\":\"0\",\"at\":4294967296}]",
-            "range images.0.at 4294967296",
+            b"\"images\":[{\"file\":\"f\",\"format\":\"flat\",\"at\":2}]",
+            b"range images.0.at 2",
         ),
-        ("\"images\":[{\"hex\":\"\",\"at\":4294967292}]", "ok"),
-        ("\"images\":[{\"hex\":\"0\"}]", "hex images.0"),
-        ("\"images\":[{\"hex\":\"0g\"}]", "hex images.0"),
-        ("\"images\":[{\"hex\":\"aB\"}]", "ok"),
         (
-            "\"images\":[{\"hex\":\"\"},{\"hex\":\"0g\"}]",
-            "hex images.1",
+            b"\"images\":[{\"file\":\"f\",\"format\":\"elf\",\"at\":\"\"}]",
+            b"kind images.0.at",
         ),
-        ("\"images\":[{\"hex\":\"0g\"},7]", "hex images.0"),
-        ("\"images\":[{\"hex\":\"\"},7]", "kind images.1"),
         (
-            "\"nodes\":1,\"images\":[{\"hex\":\"\"},{\"hex\":\"\"}]",
-            "range images 2",
+            b"\"images\":[{\"hex\":\"0\",\"at\":4294967296}]",
+            b"range images.0.at 4294967296",
+        ),
+        (b"\"images\":[{\"hex\":\"\",\"at\":4294967292}]", b"ok"),
+        (b"\"images\":[{\"hex\":\"0\"}]", b"hex images.0"),
+        (b"\"images\":[{\"hex\":\"0g\"}]", b"hex images.0"),
+        (b"\"images\":[{\"hex\":\"aB\"}]", b"ok"),
+        (
+            b"\"images\":[{\"hex\":\"\"},{\"hex\":\"0g\"}]",
+            b"hex images.1",
+        ),
+        (b"\"images\":[{\"hex\":\"0g\"},7]", b"hex images.0"),
+        (b"\"images\":[{\"hex\":\"\"},7]", b"kind images.1"),
+        (
+            b"\"nodes\":1,\"images\":[{\"hex\":\"\"},{\"hex\":\"\"}]",
+            b"range images 2",
         ),
     ];
     for (members, wanted) in rows {
-        let text = format!(in alloc;
-            "{{\"version\":1,\"nodes\":2,\"images\":[{{\"hex\":\"\"}}],{members}}}"
-        )?;
+        let mut text = b"{\"version\":1,\"nodes\":2,\"images\":[{\"hex\":\"\"}],".to_vec(alloc)?;
+        text.extend_from_slice(members)?;
+        text.push(b'}')?;
+        let told = answer(alloc, &text)?;
         assert_eq!(rt;
-            answer(alloc, text.as_bytes())?.as_str(),
+            told.as_bytes(),
             wanted,
-            "{members}"
+            "{}",
+            text.as_slice().escape_ascii()
         );
     }
     for length in 0..SHARED_LOAD.len() {

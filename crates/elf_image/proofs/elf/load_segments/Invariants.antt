@@ -1,8 +1,12 @@
 use Rattle.std.proofs.Common.{◌≡◌, map, take}
-use Rattle.std.specs.Prelude.{filter}
+use Rattle.std.specs.Prelude.{filter, All}
 use Rattle.elf_image.specs.Elf.{is_loaded, segment_of}
+use Rattle.elf_image.specs.Sizes.{FitsItsSize}
 use Rattle.elf_image.proofs.elf.load_segments.Given as goal
 
--- the segments of the headers so far
+-- the segments of the headers so far, each with room for its bytes
 abbrev pub invariant-loop-header : goal.invariant-loop-header
-invariant-loop-header l = l.segments.items ≡ map (segment_of l.bytes) (filter is_loaded (take l.header-index l.headers))
+invariant-loop-header l = record {
+  value : l.segments.items ≡ map (segment_of l.bytes) (filter is_loaded (take l.header-index l.headers));
+  sizes : All FitsItsSize l.segments.items;
+}

@@ -1,4 +1,4 @@
-use Rattle.std.proofs.Common.{◌≡◌, ◌+◌, ◌<◌, ◌⊎◌, ◌∷◌, None, Some, length, drop, get_or, sym, ap, ◌∙◌, subst, inr, arith}
+use Rattle.std.proofs.Common.{◌≡◌, ◌+◌, ◌<◌, ◌⊎◌, None, Some, length, drop, get_or, sym, ap, ◌∙◌, subst, inr, arith}
 use Rattle.std.proofs.lemmas.List.{drop_more}
 use Rattle.wt_params.specs.declared.parts.Field.TheVariants.{Nodes}
 use Rattle.wt_params.specs.Fields.{fault_among, fault_of}

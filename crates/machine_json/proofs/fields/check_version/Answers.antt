@@ -1,10 +1,9 @@
 use Rattle.std.proofs.Common.{◌≡◌, ◌≢◌, ℕ, None, Some, Option, true, refl, sym, ap, ◌∙◌, inr, arith}
 use Rattle.std.specs.Prelude.{option_and_then, unwrap_or}
-use Rattle.std.specs.Option.{option_or, option_map}
+use Rattle.std.specs.Option.{option_or}
 use Rattle.std.proofs.lemmas.Bool.Decides.{nat_tests}
 use Rattle.std.proofs.lemmas.Result.{err_from_is_err_and}
 use Rattle.serde_json.specs.Data.{Data}
-use Rattle.serde_json.specs.View.{view}
 use Rattle.machine_json.specs.declared.fault.MachineFault.{MachineFault}
 use Rattle.machine_json.specs.declared.fault.MachineFault.TheVariants.{Range}
 use Rattle.machine_json.specs.Numbers.{version_fault, kind_fault, is_version_1}

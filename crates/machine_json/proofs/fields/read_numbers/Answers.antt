@@ -1,9 +1,8 @@
-use Rattle.std.proofs.Common.{◌≡◌, None, sym, ap, ◌∙◌, subst}
+use Rattle.std.proofs.Common.{sym, ap, ◌∙◌}
 use Rattle.std.specs.Option.{option_or}
 use Rattle.std.proofs.lemmas.Result.{err_from_is_err_and}
 use Rattle.serde_json.specs.View.{view}
 use Rattle.wt_params.specs.Fields.{machine_of}
-use Rattle.machine_json.specs.Answers.{IsFaultOf}
 use Rattle.machine_json.specs.Description.{numbers_fault, own_fault, cost_fault}
 use Rattle.machine_json.specs.Numbers.{parts_of, costs_fault}
 use Rattle.machine_json.proofs.FaultLaws.{fault_of_first, fault_of_rest, same_fault}

@@ -14,9 +14,9 @@ pub returns-in_ok-member_key-in-Some-unknown_in-clause-fault :
 unfolding entry_fault
 returns-in_ok-member_key-in-Some-unknown_in-clause-fault c =
     inr (
-      ap (entry_members_fault c.args.number) (sym c.in-Some.ensures)
-      ∙ ap (option_map (λ name. Unknown (member_key c.args.number name))) (sym c.in-Some-unknown_in.ensures)
-      ∙ ap (λ key. Some (Unknown key)) (sym c.in_ok-member_key-in-Some-unknown_in.ensures)
+    ap (entry_members_fault c.args.number) (sym c.in-Some.ensures)
+    ∙ ap (option_map (λ name. Unknown (member_key c.args.number name))) (sym c.in-Some-unknown_in.ensures)
+    ∙ ap (λ key. Some (Unknown key)) (sym c.in_ok-member_key-in-Some-unknown_in.ensures)
     )
 
 pub returns-in-None-clause-ok : goal.returns-in-None-clause-ok

@@ -1,4 +1,4 @@
-use Rattle.std.proofs.Common.{◌≡◌, ℕ, List, true, false, cond, Ok, Err, Some, sym, ap, ◌∙◌, inr, rules}
+use Rattle.std.proofs.Common.{◌≡◌, ℕ, List, true, false, Ok, Err, Some, sym, ap, ◌∙◌, inr, rules}
 use Rattle.std.specs.Prelude.{codes}
 use Rattle.std.specs.Str.{bytes_eq}
 use Rattle.machine_json.specs.declared.fault.MachineFault.TheVariants.{Kind}
@@ -40,13 +40,13 @@ pub returns-clause-fault : goal.returns-clause-fault
 unfolding is_elf_of
 returns-clause-fault c =
     inr (
-      ap (is_elf_at c.args.number) (sym c.in-Some.ensures)
-      ∙ elim c.match-as_str.branch [
-        | in-Some-as_str+else-eq+else-eq-2 w ↦
+    ap (is_elf_at c.args.number) (sym c.in-Some.ensures)
+    ∙ elim c.match-as_str.branch [
+      | in-Some-as_str+else-eq+else-eq-2 w ↦
           let elf : bytes_eq w.in-Some-as_str.text.now (codes "elf") ≡ false = search rules in
           let flat : bytes_eq w.in-Some-as_str.text.now (codes "flat") ≡ false = search rules in
           ap (is_elf_text c.args.number) (sym w.in-Some-as_str.ensures) ∙ other_text c.args.number w.in-Some-as_str.text.now elf flat
-        | in_default-as_str w ↦ ap (is_elf_text c.args.number) (sym w.in_default-as_str.ensures)
-      ]
-      ∙ ap (λ key. Err (Kind key)) (sym c.in_ok-member_key.ensures)
+      | in_default-as_str w ↦ ap (is_elf_text c.args.number) (sym w.in_default-as_str.ensures)
+    ]
+    ∙ ap (λ key. Err (Kind key)) (sym c.in_ok-member_key.ensures)
     )

@@ -1,4 +1,4 @@
-use Rattle.std.proofs.Common.{Ok, sym, ap, ◌∙◌}
+use Rattle.std.proofs.Common.{Ok, sym, ap}
 use Rattle.std.proofs.lemmas.Result.{err_from_is_err_and}
 use Rattle.machine_json.specs.declared.description.ImageSpec.TheVariants.{Bytes}
 use Rattle.machine_json.specs.Images.{hex_image}

@@ -54,7 +54,7 @@ returns-in_ok-member_key-in_default-clause-fault c =
     let key = ap (λ key. Err (Missing key)) (sym c.in_ok-member_key-in_default.ensures) in
     elim c.in_default.branch [
       | in_default-via-in-Some+in_default w ↦
-        inr (image_of-from c.args.number entry _ _ c.in_ok-check_entry.ensures.ok w.in_default.ensures w.in_default.ensures' ∙ key)
+          inr (image_of-from c.args.number entry _ _ c.in_ok-check_entry.ensures.ok w.in_default.ensures w.in_default.ensures' ∙ key)
       | in_default-via-in-None+in_default w ↦
-        inr (image_of-from c.args.number entry _ _ c.in_ok-check_entry.ensures.ok w.in_default.ensures w.in_default.ensures' ∙ key)
+          inr (image_of-from c.args.number entry _ _ c.in_ok-check_entry.ensures.ok w.in_default.ensures w.in_default.ensures' ∙ key)
     ]

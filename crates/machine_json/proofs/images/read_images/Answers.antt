@@ -31,8 +31,8 @@ pub returns-in_default-as_array-clause-fault : goal.returns-in_default-as_array-
 unfolding images_of
 returns-in_default-as_array-clause-fault c =
     inr (
-      ap (images_at c.args.nodes) (sym c.in-Some.ensures) ∙ ap (images_in c.args.nodes) (sym c.in_default-as_array.ensures)
-      ∙ ap (λ key. Err (Kind key)) (sym c.in_ok-key-2.ensures)
+    ap (images_at c.args.nodes) (sym c.in-Some.ensures) ∙ ap (images_in c.args.nodes) (sym c.in_default-as_array.ensures)
+    ∙ ap (λ key. Err (Kind key)) (sym c.in_ok-key-2.ensures)
     )
 
 pub returns-then-count-nodes-clause-fault : goal.returns-then-count-nodes-clause-fault
@@ -41,9 +41,9 @@ returns-then-count-nodes-clause-fault c =
     let list = c.in-Some-as_array.entries.now.items in
     let count : length list ≡ c.len-count.result = search rules in
     inr (
-      ap (images_at c.args.nodes) (sym c.in-Some.ensures) ∙ ap (images_in c.args.nodes) (sym c.in-Some-as_array.ensures)
-      ∙ miscounted c.args.nodes c.len-count.result (items_view list) (items_len-items_view list ∙ count) c.if-count-ne1.true c.if-count-nodes.true
-      ∙ ap (λ key. Err (Range key c.len-count.result)) (sym c.in_ok-key-3.ensures)
+    ap (images_at c.args.nodes) (sym c.in-Some.ensures) ∙ ap (images_in c.args.nodes) (sym c.in-Some-as_array.ensures)
+    ∙ miscounted c.args.nodes c.len-count.result (items_view list) (items_len-items_view list ∙ count) c.if-count-ne1.true c.if-count-nodes.true
+    ∙ ap (λ key. Err (Range key c.len-count.result)) (sym c.in_ok-key-3.ensures)
     )
 
 pub returns-clause-ok : goal.returns-clause-ok
@@ -58,10 +58,10 @@ returns-clause-ok c =
     ] in
     IfOk-weaker c.read_entries.result (λ images. images_from 0 (items_view c.deref.result.now) ≡ Ok images) (λ images. images_of c.args.nodes (view c.args.description.now) ≡ Ok images)
     (λ images is.
-      ap (images_at c.args.nodes) (sym c.in-Some.ensures) ∙ ap (images_in c.args.nodes) (sym c.in-Some-as_array.ensures)
-      ∙ counted c.args.nodes c.len-count.result (items_view list) (items_len-items_view list ∙ count) right
-      ∙ ap (λ entries. images_from 0 (items_view entries)) (sym c.deref.ensures.value)
-      ∙ is)
+    ap (images_at c.args.nodes) (sym c.in-Some.ensures) ∙ ap (images_in c.args.nodes) (sym c.in-Some-as_array.ensures)
+    ∙ counted c.args.nodes c.len-count.result (items_view list) (items_len-items_view list ∙ count) right
+    ∙ ap (λ entries. images_from 0 (items_view entries)) (sym c.deref.ensures.value)
+    ∙ is)
     c.read_entries.ensures.ok
 
 pub returns-clause-fault : goal.returns-clause-fault

@@ -23,20 +23,20 @@ pub returns-in_default-as_u64-clause-fault : goal.returns-in_default-as_u64-clau
 unfolding place_of
 returns-in_default-as_u64-clause-fault c =
     inr (
-      ap (place_at c.args.number) (sym c.in-Some.ensures) ∙ ap (place_from c.args.number) (sym c.in_default-as_u64.ensures)
-      ∙ ap (λ key. Err (Kind key)) (sym c.in_ok-member_key.ensures)
+    ap (place_at c.args.number) (sym c.in-Some.ensures) ∙ ap (place_from c.args.number) (sym c.in_default-as_u64.ensures)
+    ∙ ap (λ key. Err (Kind key)) (sym c.in_ok-member_key.ensures)
     )
 
 pub returns-then-place-ne0-clause-fault : goal.returns-then-place-ne0-clause-fault
 unfolding place_of
 returns-then-place-ne0-clause-fault c =
     inr (
-      ap (place_at c.args.number) (sym c.in-Some.ensures) ∙ ap (place_from c.args.number) (sym c.in-Some-as_u64.ensures)
-      ∙ elim c.then-place-ne0.branch [
-        | then-place-ne0-via-then-place-ne0 w ↦ crooked c.args.number c.in-Some-as_u64.place w.if-place-ne0.true
-        | then-place-ne0-via-else-place-ne0+then-place w ↦ far c.args.number c.in-Some-as_u64.place w.if-place.true
-      ]
-      ∙ ap (λ key. Err (Range key c.in-Some-as_u64.place)) (sym c.in_ok-member_key-2.ensures)
+    ap (place_at c.args.number) (sym c.in-Some.ensures) ∙ ap (place_from c.args.number) (sym c.in-Some-as_u64.ensures)
+    ∙ elim c.then-place-ne0.branch [
+      | then-place-ne0-via-then-place-ne0 w ↦ crooked c.args.number c.in-Some-as_u64.place w.if-place-ne0.true
+      | then-place-ne0-via-else-place-ne0+then-place w ↦ far c.args.number c.in-Some-as_u64.place w.if-place.true
+    ]
+    ∙ ap (λ key. Err (Range key c.in-Some-as_u64.place)) (sym c.in_ok-member_key-2.ensures)
     )
 
 pub returns-clause-ok : goal.returns-clause-ok

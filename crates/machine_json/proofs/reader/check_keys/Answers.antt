@@ -12,8 +12,8 @@ pub returns-in_ok-key-in-Some-unknown_in-clause-fault : goal.returns-in_ok-key-i
 unfolding keys_fault
 returns-in_ok-key-in-Some-unknown_in-clause-fault c =
     inr (
-      ap keys_in_fault (sym c.in-Some.ensures) ∙ ap (option_map Unknown) (sym c.in-Some-unknown_in.ensures)
-      ∙ ap (λ key. Some (Unknown key)) (sym c.in_ok-key-in-Some-unknown_in.ensures)
+    ap keys_in_fault (sym c.in-Some.ensures) ∙ ap (option_map Unknown) (sym c.in-Some-unknown_in.ensures)
+    ∙ ap (λ key. Some (Unknown key)) (sym c.in_ok-key-in-Some-unknown_in.ensures)
     )
 
 pub returns-in-None-clause-ok : goal.returns-in-None-clause-ok

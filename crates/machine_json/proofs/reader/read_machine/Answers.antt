@@ -1,35 +1,35 @@
-use Rattle.std.proofs.Common.{◌≡◌, Ok, sym, ap, ◌∙◌}
+use Rattle.std.proofs.Common.{Ok, sym, ap, ◌∙◌}
 use Rattle.std.proofs.lemmas.Result.{err_from_is_err_and}
 use Rattle.serde_json.specs.View.{view}
-use Rattle.machine_json.specs.Description.{described, described_by}
+use Rattle.machine_json.specs.Description.{description_in, description_or_fault}
 use Rattle.machine_json.specs.Images.{images_of}
 use Rattle.machine_json.proofs.FaultLaws.{refusal_of_fault, refusal_of_rest, refusal_of_step, same_refusal, value_of_next, value_of_rest}
 use Rattle.machine_json.proofs.reader.read_machine.Goals as goal
 
 pub returns-in_err-check_keys-clause-fault : goal.returns-in_err-check_keys-clause-fault
-unfolding described
+unfolding description_in
 returns-in_err-check_keys-clause-fault c =
     let p =
     err_from_is_err_and c.from_residual-in_err-check_keys.result c.from_residual-in_err-check_keys.ensures.1 in
-    let from = ap described_by c.in_ok-description.ensures.ok in
+    let from = ap description_or_fault c.in_ok-description.ensures.ok in
     rw (p.1, p.2) (same_refusal _ _ _ (sym from) (refusal_of_fault _ _ _ c.in_err-check_keys.ensures.fault))
 
 pub returns-in_err-check_version-clause-fault : goal.returns-in_err-check_version-clause-fault
-unfolding described
+unfolding description_in
 returns-in_err-check_version-clause-fault c =
     let p =
     err_from_is_err_and c.from_residual-in_err-check_version.result c.from_residual-in_err-check_version.ensures.1 in
-    let from = ap described_by c.in_ok-description.ensures.ok in
+    let from = ap description_or_fault c.in_ok-description.ensures.ok in
     rw (p.1, p.2)
     (same_refusal _ _ _ (sym from)
     (refusal_of_rest _ _ _ c.in_ok-check_keys.ensures.ok
     (refusal_of_fault _ _ _ c.in_err-check_version.ensures.fault)))
 
 pub returns-in_err-machine-clause-fault : goal.returns-in_err-machine-clause-fault
-unfolding described
+unfolding description_in
 returns-in_err-machine-clause-fault c =
     let p = err_from_is_err_and c.from_residual-in_err-machine.result c.from_residual-in_err-machine.ensures.1 in
-    let from = ap described_by c.in_ok-description.ensures.ok in
+    let from = ap description_or_fault c.in_ok-description.ensures.ok in
     rw (p.1, p.2)
     (same_refusal _ _ _ (sym from)
     (refusal_of_rest _ _ _ c.in_ok-check_keys.ensures.ok
@@ -37,11 +37,11 @@ returns-in_err-machine-clause-fault c =
     (refusal_of_fault _ _ _ c.in_err-machine.ensures.fault))))
 
 pub returns-in_err-images-clause-fault : goal.returns-in_err-images-clause-fault
-unfolding described
+unfolding description_in
 returns-in_err-images-clause-fault c =
     let p = err_from_is_err_and c.from_residual-in_err-images.result c.from_residual-in_err-images.ensures.1 in
     let description = view c.in_ok-description.description in
-    let from = ap described_by c.in_ok-description.ensures.ok in
+    let from = ap description_or_fault c.in_ok-description.ensures.ok in
     let nodes = c.nodes.ensures.value ∙ ap (λ machine. machine.nodes) c.in_ok-machine.ensures.machine in
     rw (p.1, p.2)
     (same_refusal _ _ _ (sym from)
@@ -52,11 +52,11 @@ returns-in_err-images-clause-fault c =
     (same_refusal _ _ _ (ap (λ n. images_of n description) nodes) c.in_err-images.ensures.fault))))))
 
 pub returns-clause-ok : goal.returns-clause-ok
-unfolding described
+unfolding description_in
 returns-clause-ok c =
     let description = view c.in_ok-description.description in
     let nodes = c.nodes.ensures.value ∙ ap (λ machine. machine.nodes) c.in_ok-machine.ensures.machine in
-    ap described_by c.in_ok-description.ensures.ok
+    ap description_or_fault c.in_ok-description.ensures.ok
     ∙ value_of_rest _ _ _ c.in_ok-check_keys.ensures.ok
     (value_of_rest _ _ _ c.in_ok-check_version.ensures.ok
     (value_of_rest _ _ _ c.in_ok-machine.ensures.none
