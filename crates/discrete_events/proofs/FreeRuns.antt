@@ -1,14 +1,16 @@
 -- What a node does that runs on its own: what stays of its station, and that a late message passes through.
-use Rattle.std.proofs.Common.{◌≡◌, ◌≢◌, ℕ, zero, suc, ◌<◌, ◌≤◌, ◌⊎◌, List, [], ◌∷◌, ◌++◌, map, Bool, true, false, cond, not, Option, Some, None, refl, ap, sym, ◌∙◌, subst, inl, inr, ◌==◌, arith, eqb-true, eq-eqb}
+use Rattle.std.proofs.Common.{◌≡◌, ◌≢◌, ℕ, ◌+◌, zero, suc, ◌<◌, ◌≤◌, ◌⊎◌, List, [], ◌∷◌, ◌++◌, map, Bool, true, false, cond, not, Option, Some, None, refl, ap, sym, ◌∙◌, subst, inl, inr, ◌==◌, arith, eqb-true, eq-eqb}
 use Rattle.std.specs.Prelude.{flat_map}
 use Rattle.std.specs.FinMap.{get, entries, retain_keys}
 use Rattle.wt_proto.specs.declared.key.Key.{Key}
-use Rattle.discrete_events.specs.Simulation.{Simulation, Event, Message}
+use Rattle.discrete_events.specs.Simulation.{Simulation, Event, Step, Arrival, Message}
 use Rattle.discrete_events.specs.World.{counts_below, steps_below, reaches_below, arrival, events_below, least}
 use Rattle.discrete_events.specs.Serial.{placed, taken}
 use Rattle.discrete_events.specs.Round.{FreeRun, to_itself, to_others, with_outs, after_own, free_run}
-use Rattle.discrete_events.specs.Laws.{IsIn, IsSent, Reacts, IsSimulation, IsStation}
+use Rattle.discrete_events.specs.Laws.{IsIn, IsAfter, IsSent, Reacts, IsSimulation, IsStation}
 use Rattle.discrete_events.proofs.Lists.{or_else, all_in, from_filter, in_append, from_any}
+use Rattle.discrete_events.specs.KeyTimes.{earlier_less}
+use Rattle.discrete_events.proofs.Keys.{less_time}
 use Rattle.discrete_events.proofs.Queues.{Queue, same_queue, get_kept, get_placed, last_of, last_where}
 use Rattle.discrete_events.proofs.Events.{IsEventOf, IsEventBelow, both_true, counts_time, event_is, least_in}
 use Rattle.discrete_events.proofs.Stations.{taken_alike, from_placed, left_over, left_alone, reacts, goes_on}
@@ -192,6 +194,77 @@ module _ {S X : Type 0} (sim : Simulation S X) (IsSound : S → Type 0) (Fits : 
   unfolding free_run
   run_of zero node pending st kept = record { number = refl; source = λ m h. absurd h; away = λ m h. absurd h; kept = kept }
   run_of (suc n) node pending st kept = run_after n node pending st kept (λ new queue. run_of n new queue) (least (events_below sim until (node ∷ []) pending)) refl
+
+  -- ---- when what it sends comes, and what it has handled
+
+  -- an event of a station is above the last one that it handled
+  after_last : (node : S) (pending : Queue X) → IsStation sim IsSound Fits node pending → (key : Key) (event : Event X) → IsEventOf sim pending node key event → IsAfter (sim.last node) key
+  after_last node pending st key Step is = subst (IsAfter (sim.last node)) (sym is.1) (st.step key.time is.0)
+  after_last node pending st key (Arrival message) is = st.no_past key message.1 is.2 is.1
+
+  abbrev NoneBefore : ℕ → S → Queue X → Type 0
+  NoneBefore time node pending = (key : Key) (event : Event X) → IsIn (key, event) (events_below sim until (node ∷ []) pending) → time ≤ key.time
+
+  outs_after : (n time : ℕ) (node : S) (pending : Queue X) → IsStation sim IsSound Fits node pending → NoneBefore time node pending →
+      ((new : S) (queue : Queue X) → IsStation sim IsSound Fits new queue → NoneBefore time new queue → (m : Message X) → IsIn m (free_run sim until n new queue).outs → time + sim.lookahead ≤ m.0.time) →
+      (o : Option (Key × Event X)) → least (events_below sim until (node ∷ []) pending) ≡ o →
+      (m : Message X) → IsIn m (after_own sim (free_run sim until n) node pending o).outs → time + sim.lookahead ≤ m.0.time
+  outs_after n time node pending st none rest None is m h = absurd h
+  outs_after n time node pending st none rest (Some e) is m h = by (in_append m (to_others sim node (sends node pending e.0 e.1 is st)) (free_run sim until n new queue).outs h)
+    where
+      new : S
+      new = new_node node pending e.0 e.1 is st
+
+      queue : Queue X
+      queue = placed (taken e.1 pending) (own node pending e.0 e.1 is st)
+
+      no_earlier : time ≤ e.0.time
+      no_earlier = none e.0 e.1 (least_in _ (e.0, e.1) is)
+
+      none_new : NoneBefore time new queue
+      none_new k event member =
+          let after = after_last new queue (own_station node pending e.0 e.1 is st) k event (counts_and_is sim until new queue k event member).1 in
+          let up = less_time e.0 k (subst (λ last. IsAfter last k) (own_reacts node pending e.0 e.1 is st).last after) in
+          omega (arith, no_earlier)
+
+      by : IsIn m (to_others sim node (sends node pending e.0 e.1 is st)) ⊎ IsIn m (free_run sim until n new queue).outs → time + sim.lookahead ≤ m.0.time
+      by (inl other) =
+          let away = unequal _ _ (false_not _ (from_filter (λ (k : Message X). not (k.0.to == sim.number node)) m (sends node pending e.0 e.1 is st) other).1) in
+          let late = (others_sent node pending e.0 e.1 is st m other).late away in
+          omega (arith, no_earlier)
+      by (inr later) = rest new queue (own_station node pending e.0 e.1 is st) none_new m later
+
+  -- What a node sends to others comes by the lookahead after its first event.
+  pub outs_late : (n time : ℕ) (node : S) (pending : Queue X) → IsStation sim IsSound Fits node pending → NoneBefore time node pending → (m : Message X) → IsIn m (free_run sim until n node pending).outs → time + sim.lookahead ≤ m.0.time
+  unfolding free_run
+  outs_late zero time node pending st none = λ m h. absurd h
+  outs_late (suc n) time node pending st none = outs_after n time node pending st none (λ new queue. outs_late n time new queue) (least (events_below sim until (node ∷ []) pending)) refl
+
+  -- What it sends to others fits.
+  pub outs_fit : (n : ℕ) (node : S) (pending : Queue X) → IsStation sim IsSound Fits node pending → (m : Message X) → IsIn m (free_run sim until n node pending).outs → Fits m
+  unfolding free_run
+  outs_fit zero node pending st m = λ h. absurd h
+  outs_fit (suc n) node pending st m = by (outs_fit n) (least (events_below sim until (node ∷ []) pending)) refl
+    where
+      by : ((new : S) (queue : Queue X) → IsStation sim IsSound Fits new queue → (k : Message X) → IsIn k (free_run sim until n new queue).outs → Fits k) → (o : Option (Key × Event X)) → least (events_below sim until (node ∷ []) pending) ≡ o → IsIn m (after_own sim (free_run sim until n) node pending o).outs → Fits m
+      by rest None is h = absurd h
+      by rest (Some e) is h = either (in_append m (to_others sim node (sends node pending e.0 e.1 is st)) _ h)
+        where
+          either : IsIn m (to_others sim node (sends node pending e.0 e.1 is st)) ⊎ IsIn m (free_run sim until n (new_node node pending e.0 e.1 is st) (placed (taken e.1 pending) (own node pending e.0 e.1 is st))).outs → Fits m
+          either (inl k) = (others_sent node pending e.0 e.1 is st m k).fits
+          either (inr k) = rest (new_node node pending e.0 e.1 is st) (placed (taken e.1 pending) (own node pending e.0 e.1 is st)) (own_station node pending e.0 e.1 is st) m k
+
+  -- What comes at the end of the quantum or later, and after the last event before, is after the last one of the run.
+  pub last_below : (n : ℕ) (node : S) (pending : Queue X) → IsStation sim IsSound Fits node pending → (q : Key) → until ≤ q.time → IsAfter (sim.last node) q → IsAfter (sim.last (free_run sim until n node pending).node) q
+  unfolding free_run
+  last_below zero node pending st q late after = after
+  last_below (suc n) node pending st q late after = by (last_below n) (least (events_below sim until (node ∷ []) pending)) refl
+    where
+      by : ((new : S) (queue : Queue X) → IsStation sim IsSound Fits new queue → (k : Key) → until ≤ k.time → IsAfter (sim.last new) k → IsAfter (sim.last (free_run sim until n new queue).node) k) → (o : Option (Key × Event X)) → least (events_below sim until (node ∷ []) pending) ≡ o → IsAfter (sim.last (after_own sim (free_run sim until n) node pending o).node) q
+      by rest None is = after
+      by rest (Some e) is =
+          rest (new_node node pending e.0 e.1 is st) _ (own_station node pending e.0 e.1 is st) q late
+          (subst (λ last. IsAfter last q) (sym (own_reacts node pending e.0 e.1 is st).last) (earlier_less e.0 q (let b = key_below node pending e.0 e.1 is st in omega arith)))
 
 -- A node without an event below the time does nothing.
 pub rests : {S X : Type 0} (sim : Simulation S X) (until n : ℕ) (node : S) (pending : Queue X) → least (events_below sim until (node ∷ []) pending) ≡ None → free_run sim until n node pending ≡ record { node = node; pending = pending; outs = [] }

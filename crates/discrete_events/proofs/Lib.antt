@@ -11,3 +11,4 @@ pub mod RoundIsSerial
 pub mod Whole
 pub mod OnLists
 pub mod Computed
+pub mod Interleaving

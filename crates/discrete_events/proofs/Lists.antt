@@ -89,6 +89,10 @@ pub map_alike : {A B : Type 0} (f g : A → B) (xs : List A) → ((x : A) → Is
 map_alike f g [] is = refl
 map_alike f g (x ∷ xs) is = λ i. is x (inl refl) i ∷ map_alike f g xs (λ y h. is y (inr h)) i
 
+pub flat_map_alike : {A B : Type 0} (f g : A → List B) (xs : List A) → ((x : A) → IsIn x xs → f x ≡ g x) → flat_map f xs ≡ flat_map g xs
+flat_map_alike f g [] is = refl
+flat_map_alike f g (x ∷ xs) is = λ i. is x (inl refl) i ++ flat_map_alike f g xs (λ y h. is y (inr h)) i
+
 pub map_map : {A B C : Type 0} (f : B → C) (g : A → B) (xs : List A) → map f (map g xs) ≡ map (λ x. f (g x)) xs
 map_map f g [] = refl
 map_map f g (x ∷ xs) = ap (λ ys. f (g x) ∷ ys) (map_map f g xs)

@@ -1,7 +1,6 @@
 -- The least event of a world is taken off a round: the round before the event is the round after it.
 use Rattle.std.proofs.Common.{◌≡◌, ◌≢◌, ℕ, suc, ◌+◌, ◌-◌, ◌<◌, ◌≤◌, ◌⊎◌, List, [], ◌∷◌, map, Bool, true, false, cond, not, Option, Some, None, refl, ap, sym, ◌∙◌, subst, inl, inr, ◌==◌, arith, eqb-true, eq-eqb}
 use Rattle.std.specs.Prelude.{flat_map, sum_by}
-use Rattle.std.specs.List.{filter}
 use Rattle.std.specs.declared.cmp.Ordering.TheVariants.{Less}
 use Rattle.std.specs.Ordering.{eq_by_cmp}
 use Rattle.std.specs.FinMap.{get, get-remove}
@@ -12,6 +11,7 @@ use Rattle.discrete_events.specs.Simulation.{Simulation, Event, Step, Arrival, M
 use Rattle.discrete_events.specs.World.{counts_below, events_below, least}
 use Rattle.discrete_events.specs.Serial.{placed, taken, is_for, node_after, sent_by}
 use Rattle.discrete_events.specs.Round.{FreeRun, to_itself, to_others, with_outs, free_run, local, to_node, runs_to, together, exchanged}
+use Rattle.discrete_events.specs.Core.{part_to}
 use Rattle.discrete_events.specs.Laws.{IsIn, IsAfter, IsSent, IsNumbered, Reacts, IsSimulation, IsStation}
 use Rattle.discrete_events.proofs.Lists.{or_else, or_else_none, all_in, from_filter, from_map, map_alike, map_map, flat_map_map}
 use Rattle.discrete_events.specs.KeyTimes.{earlier_less}
@@ -30,12 +30,12 @@ tested a b n = by (a == b) refl
     by false e = refl
 
 -- what is above a later key is above the last one
-after_less : (last : Option Key) (a b : Key) → IsAfter last a → key_cmp a b ≡ Less → IsAfter last b
+pub after_less : (last : Option Key) (a b : Key) → IsAfter last a → key_cmp a b ≡ Less → IsAfter last b
 after_less None a b h less = tt
 after_less (Some last) a b h less = less_trans last a b h less
 
 module _ {X : Type 0} where
-  to_node_is : (pending : Queue X) (number : ℕ) (q : Key) (v : X) → get (to_node pending number) q ≡ Some v → (get pending q ≡ Some v) × (q.to ≡ number)
+  pub to_node_is : (pending : Queue X) (number : ℕ) (q : Key) (v : X) → get (to_node pending number) q ≡ Some v → (get pending q ≡ Some v) × (q.to ≡ number)
   to_node_is pending number q v e = by (q.to == number) refl (sym (get_to_node pending number q) ∙ e)
     where
       by : (b : Bool) → (q.to == number) ≡ b → cond b (get pending q) None ≡ Some v → (get pending q ≡ Some v) × (q.to ≡ number)
@@ -55,10 +55,6 @@ module _ {X : Type 0} where
       by : (b : Bool) → cond b None (get pending q) ≡ None
       by true = refl
       by false = e
-
-  -- the part of messages to a node
-  abbrev pub part_to : ℕ → List (Message X) → List (Message X)
-  part_to number ms = filter (λ m. m.0.to == number) ms
 
 -- what is pending once the nodes have exchanged their messages
 pub get_exchanged : {S X : Type 0} (run : S → FreeRun S X) (nodes : List S) (q : Key) → get (exchanged (map run nodes)) q ≡ or_else (last_of q (flat_map (λ n. (run n).outs) nodes)) (first_of q (map (λ n. (run n).pending) nodes))

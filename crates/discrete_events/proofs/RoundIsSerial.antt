@@ -5,11 +5,11 @@ use Rattle.wt_proto.specs.declared.key.Key.{Key}
 use Rattle.discrete_events.specs.Simulation.{Simulation, Event, Message}
 use Rattle.discrete_events.specs.World.{World, events_in, least}
 use Rattle.discrete_events.specs.Serial.{serial_step, serial}
-use Rattle.discrete_events.specs.Round.{FreeRun, local, to_node, runs_to, exchanged, round, quantum_end}
+use Rattle.discrete_events.specs.Round.{FreeRun, local, to_node, runs_to, together, exchanged, round, quantum_end}
 use Rattle.discrete_events.specs.Laws.{IsIn, IsSimulation, IsWorld, IsConservative, IsBetweenQuanta, IsSerialFrom, handled_in}
 use Rattle.discrete_events.proofs.Lists.{or_else, map_alike, map_map}
 use Rattle.discrete_events.proofs.Keys.{upto_time, less_time}
-use Rattle.discrete_events.proofs.Queues.{same_queue, first_of, get_to_node}
+use Rattle.discrete_events.proofs.Queues.{same_queue, first_of, get_to_node, get_together}
 use Rattle.discrete_events.proofs.Events.{least_in, least_none, least_upto, event_is, counts_time, IsEventBelow}
 use Rattle.discrete_events.proofs.Stations.{lt_or_le}
 use Rattle.discrete_events.proofs.FreeRuns.{rests}
@@ -25,24 +25,10 @@ module _ {S X : Type 0} (sim : Simulation S X) (IsSound : S → Type 0) (Fits : 
     pending = exchanged (runs_to sim until world.nodes world.pending);
   }
 
-  -- where no event is below the time, nothing happens
-  module _ (until : ℕ) (within : until ≤ sim.budget) (world : World S X) (ok : IsWorld sim IsSound Fits world) (none : (key : Key) (event : Event X) → IsIn (key, event) (events_in sim world) → until ≤ key.time) where
-    abbrev idle : S → FreeRun S X
-    idle node = record { node = node; pending = to_node world.pending (sim.number node); outs = [] }
-
-    runs_idle : runs_to sim until world.nodes world.pending ≡ map idle world.nodes
-    runs_idle = map_alike (λ node. local sim until node (to_node world.pending (sim.number node))) idle world.nodes
-        (λ node member. rests sim until (sim.event_limit - sim.handled node) node (to_node world.pending (sim.number node)) (none_own sim IsSound Fits laws until within world.nodes world.pending ok.numbered ok.fitting ok.stations node member none))
-
-    map_same : (nodes : List S) → map (λ (node : S). node) nodes ≡ nodes
-    map_same [] = refl
-    map_same (x ∷ xs) = ap (λ ys. x ∷ ys) (map_same xs)
-
-    idle_nodes : map (λ (run : FreeRun S X). run.node) (runs_to sim until world.nodes world.pending) ≡ world.nodes
-    idle_nodes = ap (map (λ (run : FreeRun S X). run.node)) runs_idle ∙ map_map (λ (run : FreeRun S X). run.node) idle world.nodes ∙ map_same world.nodes
-
-    idle_queues : (q : Key) → first_of q (map (λ n. to_node world.pending (sim.number n)) world.nodes) ≡ get world.pending q
-    idle_queues q = by (get world.pending q) refl
+  -- the messages of all nodes together are those that are pending
+  module _ (world : World S X) (ok : IsWorld sim IsSound Fits world) where
+    pub first_of_nodes : (q : Key) → first_of q (map (λ n. to_node world.pending (sim.number n)) world.nodes) ≡ get world.pending q
+    first_of_nodes q = by (get world.pending q) refl
       where
         nothing : (n : S) → get world.pending q ≡ None → get (to_node world.pending (sim.number n)) q ≡ None
         nothing n e = get_to_node world.pending (sim.number n) q ∙ at (q.to == sim.number n)
@@ -60,9 +46,28 @@ module _ {S X : Type 0} (sim : Simulation S X) (IsSound : S → Type 0) (Fits : 
         by None e = none_first sim q (λ n. to_node world.pending (sim.number n)) world.nodes (λ n m. nothing n e) ∙ sym e
         by (Some v) e = found (numbered_find sim 0 world.nodes q.to ok.numbered (omega arith) (laws.addressed (q, v) (ok.fitting q v e)))
 
+    pub queues_together : together (map (λ n. to_node world.pending (sim.number n)) world.nodes) ≡ world.pending
+    queues_together = same_queue _ _ (λ q. get_together (map (λ n. to_node world.pending (sim.number n)) world.nodes) q ∙ first_of_nodes q)
+
+  -- where no event is below the time, nothing happens
+  module _ (until : ℕ) (within : until ≤ sim.budget) (world : World S X) (ok : IsWorld sim IsSound Fits world) (none : (key : Key) (event : Event X) → IsIn (key, event) (events_in sim world) → until ≤ key.time) where
+    abbrev idle : S → FreeRun S X
+    idle node = record { node = node; pending = to_node world.pending (sim.number node); outs = [] }
+
+    runs_idle : runs_to sim until world.nodes world.pending ≡ map idle world.nodes
+    runs_idle = map_alike (λ node. local sim until node (to_node world.pending (sim.number node))) idle world.nodes
+        (λ node member. rests sim until (sim.event_limit - sim.handled node) node (to_node world.pending (sim.number node)) (none_own sim IsSound Fits laws until within world.nodes world.pending ok.numbered ok.fitting ok.stations node member none))
+
+    map_same : (nodes : List S) → map (λ (node : S). node) nodes ≡ nodes
+    map_same [] = refl
+    map_same (x ∷ xs) = ap (λ ys. x ∷ ys) (map_same xs)
+
+    idle_nodes : map (λ (run : FreeRun S X). run.node) (runs_to sim until world.nodes world.pending) ≡ world.nodes
+    idle_nodes = ap (map (λ (run : FreeRun S X). run.node)) runs_idle ∙ map_map (λ (run : FreeRun S X). run.node) idle world.nodes ∙ map_same world.nodes
+
     idle_pending : exchanged (runs_to sim until world.nodes world.pending) ≡ world.pending
     idle_pending = ap exchanged runs_idle ∙ same_queue _ _ (λ q. get_exchanged idle world.nodes q
-        ∙ (λ i. or_else (none_last sim q (λ n. (idle n).outs) world.nodes (λ n m. refl) i) (idle_queues q i)))
+        ∙ (λ i. or_else (none_last sim q (λ n. (idle n).outs) world.nodes (λ n m. refl) i) (first_of_nodes world ok q i)))
 
     nothing_happens : ran until world ≡ world
     nothing_happens = λ i. record { nodes = idle_nodes i; pending = idle_pending i; kept_end = world.kept_end; quanta = world.quanta }

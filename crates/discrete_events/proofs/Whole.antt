@@ -44,17 +44,17 @@ module _ {S X : Type 0} (sim : Simulation S X) (IsSound : S → Type 0) (Fits : 
     none_left = one_round.round_leaves_none sim IsSound Fits laws quanta world ok between key event is;
   }
 
-  from_world : (before after : World S X) → IsWorld sim IsSound Fits before → IsSerialFrom sim before after → IsWorld sim IsSound Fits after
+  pub from_world : (before after : World S X) → IsWorld sim IsSound Fits before → IsSerialFrom sim before after → IsWorld sim IsSound Fits after
   from_world before after ok from = subst (IsWorld sim IsSound Fits) (sym from.run) (world_of_serial sim IsSound Fits laws from.steps before ok)
 
-  joined : (a b c : World S X) → IsSerialFrom sim a b → IsSerialFrom sim b c → IsSerialFrom sim a c
+  pub joined : (a b c : World S X) → IsSerialFrom sim a b → IsSerialFrom sim b c → IsSerialFrom sim a c
   joined a b c one other = record {
     steps = other.steps + one.steps;
     run = other.run ∙ ap (serial sim other.steps) one.run ∙ serial_append sim other.steps one.steps a;
     counted = omega (arith, one.counted, other.counted);
   }
 
-  nothing_done : (world : World S X) → IsSerialFrom sim world world
+  pub nothing_done : (world : World S X) → IsSerialFrom sim world world
   nothing_done world = record { steps = 0; run = sym (serial-zero sim world); counted = omega arith }
 
   pub rounds_are_serial : RoundsAreSerial sim IsSound Fits

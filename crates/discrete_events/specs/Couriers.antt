@@ -1,4 +1,5 @@
--- Two couriers that hand numbers to each other: a small simulation, on which the definitions are computed. Own.
+-- Two couriers that hand numbers to each other: a small simulation, on which the definitions are
+-- computed. Own.
 use Rattle.std.specs.Prelude.{ℕ, ◌+◌, ◌-◌, ◌*◌, ◌<◌, ◌≤◌, List, [], ◌∷◌, map, Some, None}
 use Rattle.std.specs.Option.{unwrap_or}
 use Rattle.std.specs.FinMap.{empty}

@@ -31,7 +31,8 @@ pub record IsDue {S X : Type 0} (sim : Simulation S X) (Fits : Message X → Typ
   pub later : IsAfter (sim.last node) key
   pub its_own : IsItsOwn sim Fits node key event
 
--- A message that a node sends at an event comes later than the event, and to another node by the lookahead.
+-- A message that a node sends at an event comes later than the event, and to another node by the
+-- lookahead.
 pub record IsSent {S X : Type 0} (sim : Simulation S X) (Fits : Message X → Type 0) (node : S) (key : Key) (message : Message X) : Type 0 where
   pub fits : Fits message
   pub source : message.0.from ≡ sim.number node
@@ -47,7 +48,8 @@ pub record Reacts {S X : Type 0} (sim : Simulation S X) (IsSound : S → Type 0)
   pub next : (time : ℕ) → sim.next new ≡ Some time → key_cmp key (step_key sim new time) ≡ Less
   pub sent : AllByRecursion (IsSent sim Fits node key) sends
 
--- The laws of a simulation: what its nodes keep, what fits, and how a sound node reacts to an event that is due.
+-- The laws of a simulation: what its nodes keep, what fits, and how a sound node reacts to an event
+-- that is due.
 pub record IsSimulation {S X : Type 0} (sim : Simulation S X) (IsSound : S → Type 0) (Fits : Message X → Type 0) : Type 0 where
   pub within : (node : S) → IsSound node → sim.handled node ≤ sim.event_limit
   pub addressed : (message : Message X) → Fits message → message.0.to < sim.nodes
@@ -65,14 +67,16 @@ abbrev pub IsNumbered : {S X : Type 0} → Simulation S X → ℕ → List S →
 IsNumbered sim from [] = from ≡ sim.nodes
 IsNumbered sim from (node ∷ nodes) = (sim.number node ≡ from) × IsNumbered sim (suc from) nodes
 
--- A sound node with messages that fit, none of which, and no next step, is at or before the last event it handled.
+-- A sound node with messages that fit, none of which, and no next step, is at or before the last
+-- event it handled.
 pub record IsStation {S X : Type 0} (sim : Simulation S X) (IsSound : S → Type 0) (Fits : Message X → Type 0) (node : S) (pending : FinMap key_cmp X) : Type 0 where
   pub sound : IsSound node
   pub fitting : (key : Key) (body : X) → get pending key ≡ Some body → Fits (key, body)
   pub no_past : (key : Key) (body : X) → get pending key ≡ Some body → key.to ≡ sim.number node → IsAfter (sim.last node) key
   pub step : (time : ℕ) → sim.next node ≡ Some time → IsAfter (sim.last node) (step_key sim node time)
 
--- A world that a simulation may come to: no event that is due is at or before one that a node has handled.
+-- A world that a simulation may come to: no event that is due is at or before one that a node has
+-- handled.
 pub record IsWorld {S X : Type 0} (sim : Simulation S X) (IsSound : S → Type 0) (Fits : Message X → Type 0) (world : World S X) : Type 0 where
   pub numbered : IsNumbered sim 0 world.nodes
   pub fitting : (key : Key) (body : X) → get world.pending key ≡ Some body → Fits (key, body)

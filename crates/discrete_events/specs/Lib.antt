@@ -2,6 +2,7 @@ pub mod Simulation
 pub mod World
 pub mod Serial
 pub mod Round
+pub mod Core
 pub mod Laws
 pub mod Theorems
 pub mod KeyTimes

@@ -1,4 +1,5 @@
--- Conservative quanta: each node runs on its own up to the end of the quantum, and then the messages are exchanged. Own.
+-- Conservative quanta: each node runs on its own up to the end of the quantum, and then the
+-- messages are exchanged. Own.
 use Rattle.std.specs.Prelude.{ℕ, suc, zero, ◌+◌, ◌-◌, ◌==◌, not, min, List, [], ◌∷◌, ◌++◌, map, flat_map, Option, Some, None}
 use Rattle.std.specs.List.{filter}
 use Rattle.std.specs.FinMap.{FinMap, entries, retain_keys, from_entries}
@@ -8,7 +9,8 @@ use Rattle.discrete_events.specs.Simulation.{Simulation, Event, Message}
 use Rattle.discrete_events.specs.World.{World, events_below, events_in, least}
 use Rattle.discrete_events.specs.Serial.{placed, taken}
 
--- A node that has run on its own, with its pending messages and what it sent to other nodes, in order of sending.
+-- A node that has run on its own, with its pending messages and what it sent to other nodes, in
+-- order of sending.
 pub record FreeRun (S X : Type 0) : Type 0 where
   pub node : S
   pub pending : FinMap key_cmp X
@@ -23,7 +25,8 @@ to_others sim node sends = filter (λ message. not (message.0.to == sim.number n
 abbrev pub with_outs : {S X : Type 0} → List (Message X) → FreeRun S X → FreeRun S X
 with_outs outs run = record run { outs = outs ++ run.outs }
 
--- A node takes its least event, what it sends to itself joins its pending messages, and so on with the rest of its run.
+-- A node takes its least event, what it sends to itself joins its pending messages, and so on with
+-- the rest of its run.
 abbrev pub after_own : {S X : Type 0} → Simulation S X → (S → FinMap key_cmp X → FreeRun S X) → S → FinMap key_cmp X → Option (Key × Event X) → FreeRun S X
 after_own sim rest node pending None = record { node = node; pending = pending; outs = [] }
 after_own sim rest node pending (Some event) =

@@ -34,7 +34,8 @@ with_quantum sim time world =
     then record world { kept_end = min (time + sim.quantum) sim.budget; quanta = world.quanta + 1 }
     else world
 
--- The world after an event: its node reacts, and what that node sends is placed among the pending messages.
+-- The world after an event: its node reacts, and what that node sends is placed among the pending
+-- messages.
 abbrev pub after_event : {S X : Type 0} → Simulation S X → Key → Event X → World S X → World S X
 after_event sim key event world = with_quantum sim key.time (record world {
   nodes = map (node_after sim key event) world.nodes;

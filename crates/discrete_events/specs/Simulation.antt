@@ -2,7 +2,8 @@
 use Rattle.std.specs.Prelude.{ℕ, List, Option}
 use Rattle.wt_proto.specs.declared.key.Key.{Key}
 
--- A message is what it says under its stamp: its time, destination, source, and place among all that its source sent.
+-- A message is what it says under its stamp: its time, destination, source, and place among all
+-- that its source sent.
 abbrev pub Message : Type 0 → Type 0
 Message X = Key × X
 

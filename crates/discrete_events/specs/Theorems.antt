@@ -1,5 +1,5 @@
 -- What is proved of every simulation that keeps the laws. Own.
-use Rattle.std.specs.Prelude.{◌≡◌, ◌≢◌, ℕ, ◌+◌, ◌≤◌, ◌<◌, Some, None}
+use Rattle.std.specs.Prelude.{◌≡◌, ◌≢◌, ℕ, ◌+◌, ◌≤◌, ◌<◌, Bool, List, [], ◌∷◌, map, Some, None, if◌then◌else◌}
 use Rattle.std.specs.declared.cmp.Ordering.TheVariants.{Less}
 use Rattle.std.specs.FinMap.{FinMap, get, insert}
 use Rattle.wt_proto.specs.declared.key.Key.{Key}
@@ -8,13 +8,15 @@ use Rattle.discrete_events.specs.Simulation.{Simulation, Event, Message}
 use Rattle.discrete_events.specs.World.{World, events_in, least}
 use Rattle.discrete_events.specs.Serial.{serial_step, serial, final}
 use Rattle.discrete_events.specs.Round.{FreeRun, local, round, quantum_end, rounds}
-use Rattle.discrete_events.specs.Laws.{IsIn, IsAfter, IsStation, IsStart, IsWorld, IsConservative, IsBetweenQuanta, IsSerialFrom}
+use Rattle.discrete_events.specs.Core.{Station, Core, CoreStep, IsAtRest, world_of_core, opening, core_of, core_run, AreEnabled}
+use Rattle.discrete_events.specs.Laws.{IsIn, IsAfter, IsNumbered, IsStation, IsStart, IsWorld, IsConservative, IsBetweenQuanta, IsSerialFrom}
 
 -- a run with one more message left pending
 abbrev pub with_pending : {S X : Type 0} → Message X → FreeRun S X → FreeRun S X
 with_pending message run = record run { pending = insert run.pending message.0 message.1 }
 
--- A late message passes through: the run of a node that has it is the run without it, with the message put back.
+-- A late message passes through: the run of a node that has it is the run without it, with the
+-- message put back.
 abbrev pub LateMessagePasses : {S X : Type 0} → Simulation S X → (S → Type 0) → (Message X → Type 0) → Type 0
 LateMessagePasses {S} {X} sim IsSound Fits =
     (until : ℕ) (node : S) (pending : FinMap key_cmp X) (message : Message X) →
@@ -27,7 +29,8 @@ pub record IsAlike {S X : Type 0} (one other : World S X) : Type 0 where
   pub nodes : one.nodes ≡ other.nodes
   pub pending : one.pending ≡ other.pending
 
--- The least event peels off: a round that ends no later than the lookahead allows is the round of the world after it.
+-- The least event peels off: a round that ends no later than the lookahead allows is the round of
+-- the world after it.
 abbrev pub LeastEventPeels : {S X : Type 0} → Simulation S X → (S → Type 0) → (Message X → Type 0) → Type 0
 LeastEventPeels {S} {X} sim IsSound Fits =
     (until : ℕ) (world : World S X) (key : Key) (event : Event X) →
@@ -35,8 +38,8 @@ LeastEventPeels {S} {X} sim IsSound Fits =
     key.time < until → until ≤ sim.budget → until ≤ key.time + sim.lookahead →
     IsAlike (round sim until world) (round sim until (serial_step sim world))
 
--- A round is the serial run: nodes, pending messages, kept end and count, by as many steps as events were handled;
--- and no event is left below its end.
+-- A round is the serial run: nodes, pending messages, kept end and count, by as many steps as
+-- events were handled; and no event is left below its end.
 pub record IsSerialRound {S X : Type 0} (sim : Simulation S X) (before after : World S X) : Type 0 where
   pub serial : IsSerialFrom sim before after
   pub none_left : IsBetweenQuanta sim after
@@ -53,7 +56,8 @@ RoundsAreSerial {S} {X} sim IsSound Fits =
     IsConservative sim → (n : ℕ) (world : World S X) →
     IsWorld sim IsSound Fits world → IsBetweenQuanta sim world → IsSerialRound sim world (rounds sim n world)
 
--- The final world has no event, comes by as many steps as events were handled, and is what any run without events came to.
+-- The final world has no event, comes by as many steps as events were handled, and is what any run
+-- without events came to.
 pub record IsFinal {S X : Type 0} (sim : Simulation S X) (world : World S X) : Type 0 where
   pub none_left : (key : Key) (event : Event X) → IsIn (key, event) (events_in sim (final sim world)) → ⊥
   pub counted : IsSerialFrom sim world (final sim world)
@@ -62,7 +66,8 @@ pub record IsFinal {S X : Type 0} (sim : Simulation S X) (world : World S X) : T
 abbrev pub SerialRunEnds : {S X : Type 0} → Simulation S X → (S → Type 0) → (Message X → Type 0) → Type 0
 SerialRunEnds {S} {X} sim IsSound Fits = (world : World S X) → IsWorld sim IsSound Fits world → IsFinal sim world
 
--- No past: along the serial run, and so after any round, the key of each message is above the last key of its node.
+-- No past: along the serial run, and so after any round, the key of each message is above the last
+-- key of its node.
 pub record HasNoPast {S X : Type 0} (sim : Simulation S X) (IsSound : S → Type 0) (Fits : Message X → Type 0) (world : World S X) : Type 0 where
   pub is_world : IsWorld sim IsSound Fits world
   pub no_past : (node : S) (key : Key) (body : X) → IsIn node world.nodes → get world.pending key ≡ Some body →
@@ -91,3 +96,56 @@ KeysRise {S} {X} sim IsSound Fits =
 abbrev pub StartIsWorld : {S X : Type 0} → Simulation S X → (S → Type 0) → (Message X → Type 0) → Type 0
 StartIsWorld {S} {X} sim IsSound Fits =
     (world : World S X) → IsStart sim IsSound world → IsWorld sim IsSound Fits world × IsBetweenQuanta sim world
+
+-- each node of the one list or, where it is marked, of the other
+abbrev pub picked : {S X : Type 0} → Simulation S X → (ℕ → Bool) → List S → List S → List S
+picked sim done [] others = []
+picked sim done (node ∷ nodes) [] = []
+picked sim done (node ∷ nodes) (other ∷ others) = (if done (sim.number node) then other else node) ∷ picked sim done nodes others
+
+-- A core in the middle of a quantum: a node that isn't done is as in the world in which the quantum
+-- was opened, one that is done as in the world in which it ends; and what is under way comes no
+-- earlier than that end, and after all that its node has handled.
+pub record IsAmidQuantum {S X : Type 0} (sim : Simulation S X) (begun : World S X) (until : ℕ) (core : Core S X) : Type 0 where
+  pub ended : World S X
+  pub serial : IsSerialFrom sim begun ended
+  pub ends : ended.kept_end ≡ until
+  pub none_left : IsBetweenQuanta sim ended
+  pub nodes : map (λ station. station.node) core.stations ≡ picked sim core.done begun.nodes ended.nodes
+  pub late : (from to : ℕ) (message : Message X) → IsIn message (core.out from to) → until ≤ message.0.time
+  pub no_past : (from to : ℕ) (message : Message X) (station : Station S X) → IsIn message (core.out from to) →
+      IsIn station core.stations → sim.number station.node ≡ to → IsAfter (sim.last station.node) message.0
+
+-- A core after some steps from the core of a world. At rest it is the core of a world of the serial
+-- run, in which no event is below the kept end.
+pub record IsAmid {S X : Type 0} (sim : Simulation S X) (world : World S X) (core : Core S X) : Type 0 where
+  pub begun : World S X
+  pub serial : IsSerialFrom sim world begun
+  pub none_left : IsBetweenQuanta sim begun
+  pub kept_end : begun.kept_end ≡ core.kept_end
+  pub until : core.until ≡ opening sim begun
+  pub rest : IsAtRest core → core ≡ core_of sim begun
+  pub ends : core.until ≡ None → begun ≡ final sim world
+  pub amid : (until : ℕ) → core.until ≡ Some until → IsAmidQuantum sim begun until core
+
+-- Every interleaving of quanta, deposits and turns comes to the serial run.
+abbrev pub EveryInterleaving : {S X : Type 0} → Simulation S X → (S → Type 0) → (Message X → Type 0) → Type 0
+EveryInterleaving {S} {X} sim IsSound Fits =
+    IsConservative sim → (world : World S X) (steps : List CoreStep) →
+    IsWorld sim IsSound Fits world → IsBetweenQuanta sim world → AreEnabled sim (core_of sim world) steps →
+    IsAmid sim world (core_run sim steps (core_of sim world))
+
+-- A core at rest, whose stations have messages to themselves alone and ran up to the kept end, and
+-- whose quantum is that of its world.
+pub record IsResting {S X : Type 0} (sim : Simulation S X) (core : Core S X) : Type 0 where
+  pub rest : IsAtRest core
+  pub numbered : IsNumbered sim 0 (map (λ station. station.node) core.stations)
+  pub own : (station : Station S X) (key : Key) (body : X) → IsIn station core.stations → get station.pending key ≡ Some body →
+      key.to ≡ sim.number station.node
+  pub ran : (station : Station S X) → IsIn station core.stations → station.until ≡ core.kept_end
+  pub until : core.until ≡ opening sim (world_of_core core)
+
+-- Stands for: the core of a world has that world, and a core at rest is the core of its world.
+pub record StandsFor {S X : Type 0} (sim : Simulation S X) (IsSound : S → Type 0) (Fits : Message X → Type 0) : Type 0 where
+  pub world : (world : World S X) → IsWorld sim IsSound Fits world → world_of_core (core_of sim world) ≡ world
+  pub core : (core : Core S X) → IsResting sim core → core ≡ core_of sim (world_of_core core)

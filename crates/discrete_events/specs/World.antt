@@ -7,8 +7,8 @@ use Rattle.wt_proto.specs.declared.key.Key.{Key}
 use Rattle.wt_proto.specs.KeyOrder.{key_cmp}
 use Rattle.discrete_events.specs.Simulation.{Simulation, Event, Step, Arrival, Message, step_key}
 
--- The nodes, the pending messages in rising order of their keys, the end of the last quantum that was begun,
--- and the number of quanta.
+-- The nodes, the pending messages in rising order of their keys, the end of the last quantum that
+-- was begun, and the number of quanta.
 pub record World (S X : Type 0) : Type 0 where
   pub nodes : List S
   pub pending : FinMap key_cmp X

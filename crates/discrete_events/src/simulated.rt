@@ -1,6 +1,6 @@
 ghost use Rattle.discrete_events.specs.Simulation.{Simulation, Message};
 ghost use Rattle.discrete_events.specs.Laws.{IsSimulation};
-ghost use Rattle.discrete_events.specs.Theorems.{LateMessagePasses, LeastEventPeels, RoundIsSerial, RoundsAreSerial, SerialRunEnds, NoPast, NoPastOfRun, KeysRise, StartIsWorld};
+ghost use Rattle.discrete_events.specs.Theorems.{LateMessagePasses, LeastEventPeels, RoundIsSerial, RoundsAreSerial, SerialRunEnds, NoPast, NoPastOfRun, KeysRise, StartIsWorld, EveryInterleaving, StandsFor};
 
 /// A simulation whose node states are the values of a type, and that keeps the laws.
 pub trait Simulated {
@@ -49,4 +49,10 @@ pub fn no_past<T: Simulated>()
 /// The keys of the events handled rise along the serial run.
 pub fn keys_rise<T: Simulated>()
     ensures { KeysRise T.simulation T.is_sound T.fits }
+{}
+
+/// Every interleaving of quanta, deposits and turns comes to the serial run, and a core at rest stands for its world.
+pub fn every_interleaving<T: Simulated>()
+    ensures interleaving { EveryInterleaving T.simulation T.is_sound T.fits }
+    ensures stands { StandsFor T.simulation T.is_sound T.fits }
 {}

@@ -36,4 +36,5 @@ fn theorems_hold_of_the_couriers() {
     serial_run_ends::<Courier>();
     no_past::<Courier>();
     keys_rise::<Courier>();
+    every_interleaving::<Courier>();
 }

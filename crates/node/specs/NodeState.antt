@@ -1,5 +1,5 @@
 -- What a node is at a moment. Own.
-use Rattle.std.specs.Prelude.{◌≡◌, ℕ, ◌+◌, ◌%◌, ◌^◌, ◌<◌, ◌≤◌, [], Bool, List, length, replicate, slice_set, Option, None}
+use Rattle.std.specs.Prelude.{◌≡◌, ⊤, ℕ, ◌+◌, ◌%◌, ◌^◌, ◌<◌, ◌≤◌, [], Bool, List, length, replicate, slice_set, Option, None}
 use Rattle.wt_params.specs.declared.parts.MachineParts.{MachineParts}
 use Rattle.wt_params.specs.Machine.{IsMachine}
 use Rattle.priv_mem.specs.Memory.{overwritten}
@@ -7,7 +7,7 @@ use Rattle.rv_exec.specs.Registers.{AreRegisters}
 use Rattle.node.specs.declared.counters.Counters.{Counters}
 use Rattle.wt_proto.specs.declared.key.Key.{Key}
 use Rattle.wt_proto.specs.declared.mode.Mode.{Mode}
-use Rattle.wt_proto.specs.declared.mode.Mode.TheVariants.{Running}
+use Rattle.wt_proto.specs.declared.mode.Mode.TheVariants.{Running, Waiting}
 
 pub record NodeState : Type 0 where
   pub number : ℕ
@@ -36,6 +36,11 @@ pub record NodeModel : Type 0 where
 abbrev pub events_of : NodeState → ℕ
 events_of node = node.counters.steps + node.counters.messages
 
+-- a block that a processor waits for exists
+abbrev pub WaitsForABlock : MachineParts → Mode → Type 0
+WaitsForABlock machine (Waiting block exclusive) = block < machine.blocks
+WaitsForABlock machine _ = ⊤
+
 -- what every event keeps
 pub record IsNode (machine : MachineParts) (node : NodeState) : Type 0 where
   pub numbers : IsMachine machine
@@ -46,6 +51,7 @@ pub record IsNode (machine : MachineParts) (node : NodeState) : Type 0 where
   pub busy : node.busy < 2 ^ 62
   pub events : events_of node ≤ machine.event_limit
   pub done : node.counters.done ≤ node.counters.steps
+  pub waits : WaitsForABlock machine node.mode
 
 -- At the start x2 is the size of private memory, x10 the node's number and x11 the number of nodes.
 abbrev pub start_registers : MachineParts → ℕ → List ℕ

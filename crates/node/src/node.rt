@@ -2,7 +2,7 @@ ghost use Rattle.std.specs.Prelude.{◌≡◌, ℕ, ◌+◌, ◌%◌, ◌^◌, �
 ghost use Rattle.rv_exec.specs.Meaning.{address_after};
 ghost use Rattle.discrete_events.specs.Simulation.{Step};
 ghost use Rattle.discrete_events.specs.World.{is_spent};
-ghost use Rattle.node.specs.NodeState.{IsNode, KeepsEvents, events_of, start_node, filled_to};
+ghost use Rattle.node.specs.NodeState.{IsNode, WaitsForABlock, KeepsEvents, events_of, start_node, filled_to};
 ghost use Rattle.node.specs.Event.{wind_tunnel, react, step_time, next_step_of, counted_step, stepped, fetched, executed, after_effect, loaded, stored, called, refused_access, finished, stopped, exited};
 
 use crate::counters::Counters;
@@ -77,7 +77,8 @@ impl Node {
 
     /// What the processor does.
     pub fn mode(&self) -> &Mode
-        ensures { result.now ≡ self.now.state.mode }
+        ensures value { result.now ≡ self.now.state.mode }
+        ensures waits { WaitsForABlock self.now.machine result.now }
     {
         &self.mode
     }

@@ -1,5 +1,6 @@
 ghost use Rattle.std.specs.Prelude.{◌≡◌, ◌<◌, [], ◌∷◌, ◌++◌, length, codes, decimal, IfOk, OnOk};
 ghost use Rattle.node.specs.Event.{step_time};
+ghost use Rattle.node.specs.NodeState.{WaitsForABlock};
 ghost use Rattle.wt_text.specs.Text.{line_end};
 ghost use Rattle.wwt_run.specs.Report.{outcome_text_of, cause_text, state_text, processor_text, counts_text, event_counts_of, cache_counts_of, message_counts_of, output_text, node_line_of, count_line_of, out_line_of, total_line_of, report_lines};
 
@@ -94,6 +95,7 @@ fn clock(node: &Node) -> u64
 }
 
 fn state(line: &mut Line, machine: &Machine, mode: &Mode) -> Result<(), NoMemory>
+    requires { WaitsForABlock machine.now mode.now }
     ensures { OnOk result (line.new ≡ line.old ++ state_text machine.now mode.now) }
 {
     match *mode {

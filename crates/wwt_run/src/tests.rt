@@ -133,6 +133,36 @@ fn refusals_say_one_line(rt: HostRuntime) -> Result<(), Fail> {
 }
 
 #[test]
+fn input_that_cannot_be_read_is_told(rt: HostRuntime) -> Result<(), Fail> {
+    let alloc = rt.alloc();
+    let mut words = Vec::new(alloc);
+    words.push(String::from_str(alloc, "flat")?)?;
+    let mut files = Vec::new(alloc);
+    files.push((String::from_str(alloc, "-")?, PRINT_A.to_vec(alloc)?))?;
+    // A read that fails, and a name that is missing.
+    let mut stores = Vec::new(alloc);
+    stores.push(MemStore::new(alloc, files, [0].to_vec(alloc)?))?;
+    stores.push(MemStore::new(alloc, Vec::new(alloc), Vec::new(alloc)))?;
+    for mut store in stores {
+        let mut out = MemSink::new(alloc, 4096, Vec::new(alloc), 0)?;
+        let mut err = MemSink::new(alloc, 4096, Vec::new(alloc), 0)?;
+        let status = wwt_plain(alloc, &words, &mut store, &mut out, &mut err);
+        assert_eq!(rt; status, Some(Status::ReadFault));
+        assert_eq!(rt; out.bytes(), b"".as_slice());
+        assert_eq!(rt; err.bytes(), b"wwt: cannot read -\n".as_slice());
+    }
+    Ok(())
+}
+
+#[test]
+fn want_of_memory_is_told(rt: HostRuntime) -> Result<(), Fail> {
+    let mut err = MemSink::new(rt.alloc(), 4096, Vec::new(rt.alloc()), 0)?;
+    assert_eq!(rt; out_of_memory(&mut err), Status::NoMemory);
+    assert_eq!(rt; err.bytes(), b"wwt: out of memory\n".as_slice());
+    Ok(())
+}
+
+#[test]
 fn a_write_that_fails_ends_the_report(rt: HostRuntime) -> Result<(), Fail> {
     let alloc = rt.alloc();
     let ran = run(alloc, &["flat"], PRINT_A.to_vec(alloc)?, [1].to_vec(alloc)?)?;
