@@ -1,6 +1,8 @@
 -- The barrier unit. Own.
-use Rattle.std.specs.Prelude.{ℕ, Bool, ◌&&◌, ◌||◌, is_some, List, [], slice_get, if◌then◌else◌}
+use Rattle.std.specs.Prelude.{◌≡◌, ℕ, Bool, true, false, ◌&&◌, ◌||◌, is_some, List, [], slice_get, if◌then◌else◌}
 use Rattle.std.specs.List.{list_all}
+use Rattle.wt_params.specs.Machine.{InRange}
+use Rattle.wt_proto.specs.declared.node_set.TheConstants.{MOST_NODES}
 use Rattle.wt_proto.specs.NodeSets.{has_node, with_node, nodes_below}
 use Rattle.target_barrier.specs.declared.barrier.Release.{Release}
 use Rattle.target_barrier.specs.declared.barrier.Release.TheVariants.{Hold, Go, Stray}
@@ -10,6 +12,15 @@ pub record Barrier : Type 0 where
   pub nodes : ℕ
   pub arrived : List ℕ
   pub left : List ℕ
+
+-- No node stands in both sets.
+abbrev pub AreApart : List ℕ → List ℕ → Type 0
+AreApart arrived left = (node : ℕ) → has_node arrived node ≡ true → has_node left node ≡ false
+
+-- what every barrier keeps
+pub record IsUnit (nodes : ℕ) (arrived left : List ℕ) : Type 0 where
+  pub some : InRange 1 MOST_NODES nodes
+  pub apart : AreApart arrived left
 
 -- a node that stands in one of the two sets
 abbrev pub is_known : Barrier → ℕ → Bool

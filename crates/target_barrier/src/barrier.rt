@@ -26,15 +26,13 @@ pub struct BarrierUnit {
 }
 
 impl Model for BarrierUnit {
-    ghost use Rattle.wt_params.specs.Machine.{InRange};
-    ghost use Rattle.wt_proto.specs.declared.node_set.TheConstants.{MOST_NODES};
-    ghost use Rattle.target_barrier.specs.Barrier.{Barrier};
+    ghost use Rattle.target_barrier.specs.Barrier.{Barrier, IsUnit};
 
     ghost Value = { Barrier };
 
     ghost view = { λ unit. record { nodes = unit.nodes; arrived = unit.arrived; left = unit.left } };
 
-    ghost invariant = { λ unit. InRange 1 MOST_NODES unit.nodes };
+    ghost invariant = { λ unit. IsUnit unit.nodes unit.arrived unit.left };
 }
 
 impl BarrierUnit {
