@@ -1,5 +1,5 @@
 -- The images of a machine, from the description's list and from files. Own.
-use Rattle.std.specs.Prelude.{◌≡◌, ℕ, ◌+◌, ◌%◌, nat_eq, Bool, true, false, List, [], ◌∷◌, ◌++◌, Option, Some, None, Result, Ok, Err}
+use Rattle.std.specs.Prelude.{ℕ, ◌+◌, nat_eq, Bool, true, false, List, [], ◌∷◌, ◌++◌, Option, Some, None, Result, Ok, Err}
 use Rattle.std.specs.List.{starts_with}
 use Rattle.wt_params.specs.declared.parts.MachineParts.{MachineParts}
 use Rattle.elf_image.specs.declared.image.Image.{Image}
@@ -38,11 +38,6 @@ file_image number name elf at files =
 abbrev pub image_case : ℕ → ImageSpec → Files → Result Image Refusal
 image_case number (Bytes at bytes) files = Ok (flat_image bytes at)
 image_case number (File name elf at) files = file_image number name elf at files
-
--- where flat bytes go, an instruction can stand
-abbrev pub IsPlaced : ImageSpec → Type 0
-IsPlaced (Bytes at bytes) = at % 4 ≡ 0
-IsPlaced (File name elf at) = at % 4 ≡ 0
 
 abbrev pub image_names : ImageSpec → List (List ℕ)
 image_names (Bytes at bytes) = []

@@ -1,6 +1,7 @@
 ghost use Rattle.std.specs.Prelude.{◌≡◌, ◌+◌, ◌%◌, ◌^◌, ◌<◌, ◌∷◌, ◌++◌, [], length, All, IfOk, IfErr, OnOk};
-ghost use Rattle.image_loader.specs.Images.{HoldsItsBytes};
-ghost use Rattle.wwt_case.specs.Programs.{image_case, image_names, file_image, images_from, names_from, IsPlaced};
+ghost use Rattle.elf_image.specs.Sizes.{HoldsItsBytes};
+ghost use Rattle.machine_json.specs.Images.{IsPlaced};
+ghost use Rattle.wwt_case.specs.Programs.{image_case, image_names, file_image, images_from, names_from};
 ghost use Rattle.wwt_case.specs.Reading.{Reads};
 
 use crate::name::Name;
@@ -77,6 +78,7 @@ pub fn read_images<S: Store>(
     }) result }
     ensures files { S.files store.new ≡ S.files store.old }
     ensures bytes { IfOk result (All HoldsItsBytes) }
+    ensures count { IfOk result (λ images. length images ≡ length found + length entries.now) }
 {
     let [entry, rest @ ..] = entries else {
         return Ok(found);

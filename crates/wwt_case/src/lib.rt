@@ -4,6 +4,7 @@
 //! none. It writes nothing.
 #![tactic(auto)]
 
+mod case;
 mod images;
 mod job;
 mod name;
@@ -13,4 +14,5 @@ mod refusal;
 
 pub use job::Job;
 pub use name::Name;
+pub use case::prepare;
 pub use refusal::{FileKind, ImageRefusal, Refusal};

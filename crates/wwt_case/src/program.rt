@@ -1,7 +1,7 @@
 ghost use Rattle.std.specs.Prelude.{◌≡◌, ◌≢◌, ◌%◌, ◌⊎◌, All, IfOk, IfErr, vec_len};
 ghost use Rattle.elf_image.specs.Elf.{elf_of};
 ghost use Rattle.elf_image.specs.Flat.{flat_image};
-ghost use Rattle.image_loader.specs.Images.{HoldsItsBytes, IsFor};
+ghost use Rattle.elf_image.specs.Sizes.{HoldsItsBytes};
 ghost use Rattle.wwt_case.specs.Programs.{program_of, has_magic, load_case, executable, refused_load};
 ghost use Rattle.wwt_case.specs.Reading.{Answers};
 
