@@ -1,7 +1,7 @@
 -- The directory's two tables: what a message does to a block's entry and memory, what is sent, and what else is to be
 -- done. A row of a table is a clause. After Dir1SW (Hill, Larus, Reinhardt, Wood, Cooperative Shared Memory, 1993);
 -- own in all details.
-use Rattle.std.specs.Prelude.{◌≡◌, ℕ, ◌+◌, ◌-◌, ◌%◌, ◌^◌, ◌<◌, ◌≤◌, ◌==◌, Bool, true, false, if◌then◌else◌, List, [], ◌∷◌, ◌++◌, Option, unwrap_or}
+use Rattle.std.specs.Prelude.{◌≡◌, ℕ, ◌+◌, ◌-◌, ◌%◌, ◌≤◌, ◌==◌, Bool, true, false, if◌then◌else◌, List, [], ◌∷◌, ◌++◌, Option, unwrap_or}
 use Rattle.wt_proto.specs.declared.directory.DirState.{DirState}
 use Rattle.wt_proto.specs.declared.directory.DirState.TheVariants.{Idle, Shared, Exclusive, Busy}
 use Rattle.wt_proto.specs.declared.directory.Request.{Request}
@@ -33,10 +33,10 @@ IsSound (Shared count) = 1 ≤ count
 IsSound (Busy from exclusive left) = 1 ≤ left
 IsSound _ = Unit {0}
 
--- a count that can rise
-abbrev pub CanCount : DirState → Type 0
-CanCount (Shared count) = count < 2 ^ 63
-CanCount _ = Unit {0}
+-- how many copies to read an entry counts
+abbrev pub copies_of : DirState → ℕ
+copies_of (Shared count) = count
+copies_of _ = 0
 
 abbrev pub is_busy_state : DirState → Bool
 is_busy_state (Busy from exclusive left) = true

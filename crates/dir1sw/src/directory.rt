@@ -1,6 +1,7 @@
-ghost use Rattle.std.specs.Prelude.{◌≡◌, ◌+◌, ◌<◌, ◌≤◌, ◌/◌, ◌++◌, true, length, replicate, IfOk, OnOk, OnErr, IsErr};
+ghost use Rattle.std.specs.Prelude.{◌≡◌, ◌+◌, ◌^◌, ◌<◌, ◌≤◌, ◌/◌, ◌++◌, true, length, replicate, IfOk, OnOk, OnErr, IsErr};
 ghost use Rattle.std.specs.List.{splice};
-ghost use Rattle.dir1sw.specs.Table.{CanCount, with_memory};
+ghost use Rattle.dir1sw.specs.Table.{copies_of, with_memory};
+ghost use Rattle.dir1sw.specs.Fits.{RowsFit};
 ghost use Rattle.dir1sw.specs.Homes.{IsHome, IsBrokenFrom, fresh_block, start_of, block_of, with_block, row_of};
 
 use crate::home::{DirAct, HomeBlock, Place};
@@ -84,7 +85,7 @@ impl Directory {
     /// Handles a message from a node, by the directory's tables. What is to be sent is added to `out`.
     pub fn arrive(&mut self, from: u32, msg: &Msg, out: &mut Sends) -> Result<DirAct, NoMemory>
         requires here { IsHome self.old msg.now.block }
-        requires count { CanCount (block_of self.old msg.now.block).entry.state }
+        requires count { copies_of (block_of self.old msg.now.block).entry.state < 2 ^ 63 }
         ensures home { OnOk result (self.new ≡ with_block msg.now.block (row_of self.old from msg.now).home self.old) }
         ensures sends { OnOk result (out.new ≡ out.old ++ (row_of self.old from msg.now).sends) }
         ensures act { IfOk result (λ act. act ≡ (row_of self.old from msg.now).act) }
@@ -134,3 +135,9 @@ fn fresh_blocks(alloc: Global, machine: &Machine, count: usize) -> Result<Vec<Ho
     }
     Ok(blocks)
 }
+
+/// The law of the directory's tables: where what has come fits the machine, what a row leaves and sends fits it too, at
+/// most two messages are sent, and at most one copy more is counted.
+pub fn rows_fit()
+    ensures { RowsFit }
+{}

@@ -1,5 +1,5 @@
-ghost use Rattle.std.specs.Prelude.{◌≡◌, ◌≤◌, ◌++◌, true, false, IfOk};
-ghost use Rattle.dir1sw.specs.Table.{IsSound, CanCount, IsRow, is_busy_state, grant_body, answer_of, call_back_of, serve_of, request_of, put_s_of, put_x_of, wake_after, inv_ack_of, wake_of, arrive_of};
+ghost use Rattle.std.specs.Prelude.{◌≡◌, ◌^◌, ◌<◌, ◌≤◌, ◌++◌, true, false, IfOk};
+ghost use Rattle.dir1sw.specs.Table.{IsSound, copies_of, IsRow, is_busy_state, grant_body, answer_of, call_back_of, serve_of, request_of, put_s_of, put_x_of, wake_after, inv_ack_of, wake_of, arrive_of};
 
 use wt_params::NoMemory;
 use wt_proto::{Block, Body, DirEntry, DirState, Msg, Outgoing, Request, Sends, Targets, TrapPlan};
@@ -35,7 +35,7 @@ impl HomeBlock {
     pub fn arrive(&mut self, place: Place, body: &Body, out: &mut Sends) -> Result<DirAct, NoMemory>
         requires nodes { 1 ≤ place.nodes }
         requires sound { IsSound self.old.entry.state }
-        requires count { CanCount self.old.entry.state }
+        requires count { copies_of self.old.entry.state < 2 ^ 63 }
         ensures row { IfOk result (IsRow (arrive_of place body.now self.old) self.new out.old out.new) }
         ensures sound { IsSound self.new.entry.state }
     {
@@ -64,7 +64,7 @@ impl HomeBlock {
     ) -> Result<DirAct, NoMemory>
         requires nodes { 1 ≤ place.nodes }
         requires sound { IsSound self.old.entry.state }
-        requires count { CanCount self.old.entry.state }
+        requires count { copies_of self.old.entry.state < 2 ^ 63 }
         ensures row { IfOk result (IsRow (request_of place exclusive self.old) self.new out.old out.new) }
         ensures sound { IsSound self.new.entry.state }
     {
@@ -83,7 +83,7 @@ impl HomeBlock {
     fn serve(&mut self, place: Place, request: Request, out: &mut Sends) -> Result<DirAct, NoMemory>
         requires nodes { 1 ≤ place.nodes }
         requires sound { IsSound self.old.entry.state }
-        requires count { CanCount self.old.entry.state }
+        requires count { copies_of self.old.entry.state < 2 ^ 63 }
         ensures row { IfOk result (IsRow (serve_of place request self.old) self.new out.old out.new) }
         ensures sound { IsSound self.new.entry.state }
     {
@@ -102,7 +102,7 @@ impl HomeBlock {
     ) -> Result<DirAct, NoMemory>
         requires kind { request.exclusive ≡ false }
         requires sound { IsSound self.old.entry.state }
-        requires count { CanCount self.old.entry.state }
+        requires count { copies_of self.old.entry.state < 2 ^ 63 }
         ensures row { IfOk result (IsRow (serve_of place request self.old) self.new out.old out.new) }
         ensures sound { IsSound self.new.entry.state }
     {
@@ -201,7 +201,7 @@ impl HomeBlock {
         ensures home { self.new ≡ (put_s_of self.old).home }
         ensures act { result ≡ (put_s_of self.old).act }
         ensures sound { IsSound self.new.entry.state }
-        ensures count { CanCount self.old.entry.state → CanCount self.new.entry.state }
+        ensures count { copies_of self.new.entry.state ≤ copies_of self.old.entry.state }
     {
         match self.entry.state {
             DirState::Shared { count: 1 } => {
@@ -286,7 +286,7 @@ impl HomeBlock {
     fn wake(&mut self, place: Place, out: &mut Sends) -> Result<DirAct, NoMemory>
         requires nodes { 1 ≤ place.nodes }
         requires sound { IsSound self.old.entry.state }
-        requires count { CanCount self.old.entry.state }
+        requires count { copies_of self.old.entry.state < 2 ^ 63 }
         ensures row { IfOk result (IsRow (wake_of place self.old) self.new out.old out.new) }
         ensures sound { IsSound self.new.entry.state }
     {

@@ -5,7 +5,7 @@
 mod directory;
 mod home;
 
-pub use directory::Directory;
+pub use directory::{Directory, rows_fit};
 pub use home::{DirAct, HomeBlock, Place};
 
 #[cfg(test)]

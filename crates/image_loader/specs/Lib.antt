@@ -1,0 +1,5 @@
+pub mod Images
+pub mod Faults
+pub mod Loading
+pub mod Inside
+pub mod Examples

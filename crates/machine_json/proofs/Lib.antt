@@ -1,0 +1,6 @@
+mod TableLaws
+mod Refusals
+mod FaultLaws
+mod TwoParts
+mod TextLaws
+mod ImageLaws

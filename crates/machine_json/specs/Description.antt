@@ -1,0 +1,62 @@
+-- What a text describes, or the first fault that refuses it. Own, over `serde_json`'s definition of what it reads.
+use Rattle.std.specs.Prelude.{ℕ, Bool, if◌then◌else◌, List, Option, Some, None, option_map, Result, Ok, Err}
+use Rattle.std.specs.Option.{option_or}
+use Rattle.std.specs.Str.{is_utf8}
+use Rattle.wt_params.specs.declared.parts.MachineParts.{MachineParts}
+use Rattle.serde_json.specs.Data.{Data, Members}
+use Rattle.serde_json.specs.Find.{as_object}
+use Rattle.serde_json.specs.Read.{read}
+use Rattle.machine_json.specs.declared.keys.Table.TheVariants as tables
+use Rattle.machine_json.specs.declared.description.Description.{Description}
+use Rattle.machine_json.specs.declared.fault.MachineFault.{MachineFault}
+use Rattle.machine_json.specs.declared.fault.MachineFault.TheVariants.{Syntax, NotObject, Unknown}
+use Rattle.machine_json.specs.Answers.{unless, and_then}
+use Rattle.machine_json.specs.Table.{unknown_in, own_fields, cost_fields}
+use Rattle.machine_json.specs.Numbers.{parts_of, version_fault, fields_fault, costs_fault}
+use Rattle.machine_json.specs.Images.{images_of}
+
+-- what a text says, where it is UTF-8 and JSON
+unfoldable pub data_of : List ℕ → Option Data
+data_of bytes = if is_utf8 bytes then read bytes else None
+
+-- a text that says nothing
+abbrev pub data_fault : Option Data → Option MachineFault
+data_fault None = Some Syntax
+data_fault (Some description) = None
+
+-- a description is an object of nothing but what stands in the table
+abbrev pub keys_in_fault : Option Members → Option MachineFault
+keys_in_fault None = Some NotObject
+keys_in_fault (Some members) = option_map Unknown (unknown_in tables.Description members)
+
+unfoldable pub keys_fault : Data → Option MachineFault
+keys_fault description = keys_in_fault (as_object description)
+
+-- the numbers of a description, in the order in which they are tested: the version, its own, and its costs
+unfoldable pub own_fault : Data → Option MachineFault
+own_fault description = fields_fault description (parts_of description) own_fields
+
+unfoldable pub cost_fault : Data → Option MachineFault
+cost_fault description = fields_fault description (parts_of description) cost_fields
+
+-- all of these numbers, with the object of costs between
+unfoldable pub numbers_fault : Data → Option MachineFault
+numbers_fault description =
+    option_or (own_fault description) (option_or (costs_fault description) (cost_fault description))
+
+-- what some data describe
+unfoldable pub described : Data → Result Description MachineFault
+described description =
+    unless (keys_fault description)
+    (unless (version_fault description)
+    (unless (numbers_fault description)
+    (and_then (images_of (parts_of description).nodes description)
+    (λ images. Ok (record { machine = parts_of description; images = images })))))
+
+abbrev pub described_by : Option Data → Result Description MachineFault
+described_by None = Err Syntax
+described_by (Some description) = described description
+
+-- what a text describes
+abbrev pub description_of : List ℕ → Result Description MachineFault
+description_of bytes = described_by (data_of bytes)

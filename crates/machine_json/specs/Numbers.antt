@@ -1,0 +1,95 @@
+-- The numbers of a description, and what refuses them. Ranges are those of a machine. Own.
+use Rattle.std.specs.Prelude.{◌≡◌, ℕ, ◌==◌, Bool, true, false, ◌⊎◌, if◌then◌else◌, List, [], ◌∷◌, ◌++◌, Option, Some, None, is_some, unwrap_or, option_map, option_and_then}
+use Rattle.std.specs.Option.{option_or}
+use Rattle.wt_params.specs.declared.parts.Field.{Field}
+use Rattle.wt_params.specs.declared.parts.Field.TheVariants.{Nodes, PrivateBytes, BlockBytes, Blocks, Sets, Ways, Latency, SelfLatency, Quantum, EventLimit, Budget, Op, Taken, Mem, Hit, Cico, Call, Fill, Trap, TrapEach}
+use Rattle.wt_params.specs.declared.parts.MachineParts.{MachineParts}
+use Rattle.wt_params.specs.Fields.{number_of, is_in_range, fault_among, fault_of, key_of}
+use Rattle.serde_json.specs.Data.{Data, Members}
+use Rattle.serde_json.specs.Find.{get, as_object}
+use Rattle.machine_json.specs.declared.keys.Table.TheVariants as tables
+use Rattle.machine_json.specs.declared.fault.MachineFault.{MachineFault}
+use Rattle.machine_json.specs.declared.fault.MachineFault.TheVariants.{Unknown, Missing, Kind, Range}
+use Rattle.machine_json.specs.Table.{version_key, costs_key, cost_prefix, unknown_in, value_of, whole_number}
+
+-- a number that has to be there, or has a default
+abbrev pub is_required : Field → Bool
+is_required Nodes = true
+is_required _ = false
+
+-- the number at a field, or its default where none is there
+abbrev pub number_or : Data → Field → ℕ → ℕ
+number_or description field default = unwrap_or (option_and_then whole_number (value_of description field)) default
+
+-- The numbers of a description, with the defaults of those that aren't there. A quantum is as long as the latency unless
+-- it is given. Nodes have no default: without them the description is refused.
+unfoldable pub parts_of : Data → MachineParts
+parts_of description = record {
+  nodes = number_or description Nodes 0;
+  private_bytes = number_or description PrivateBytes 1048576;
+  block_bytes = number_or description BlockBytes 32;
+  blocks = number_or description Blocks 1024;
+  sets = number_or description Sets 64;
+  ways = number_or description Ways 4;
+  latency = number_or description Latency 100;
+  self_latency = number_or description SelfLatency 10;
+  quantum = number_or description Quantum (number_or description Latency 100);
+  event_limit = number_or description EventLimit 4294967296;
+  budget = number_or description Budget 4294967296;
+  costs = record {
+    op = number_or description Op 1;
+    taken = number_or description Taken 2;
+    mem = number_or description Mem 1;
+    hit = number_or description Hit 1;
+    cico = number_or description Cico 1;
+    call = number_or description Call 1;
+    fill = number_or description Fill 4;
+    trap = number_or description Trap 250;
+    trap_each = number_or description TrapEach 5;
+  };
+}
+
+-- what stands at a key isn't there though it has to, or is no whole number
+abbrev pub kind_fault : Bool → List ℕ → Option Data → Option MachineFault
+kind_fault required key None = if required then Some (Missing key) else None
+kind_fault required key (Some value) = if is_some (whole_number value) then None else Some (Kind key)
+
+abbrev pub number_fault : Data → Field → Option MachineFault
+number_fault description field = kind_fault (is_required field) (key_of field) (value_of description field)
+
+abbrev pub range_fault : MachineParts → Field → Option MachineFault
+range_fault parts field =
+    if is_in_range parts field then None else Some (Range (key_of field) (number_of parts field))
+
+-- the first fault of some fields, each tested whole before the next one
+abbrev pub fields_fault : Data → MachineParts → List Field → Option MachineFault
+fields_fault description parts [] = None
+fields_fault description parts (field ∷ rest) =
+    option_or (number_fault description field)
+    (option_or (range_fault parts field) (fields_fault description parts rest))
+
+-- the machine's first number outside its range is among some fields, or all of theirs are in their ranges
+abbrev pub IsFirstAmong : MachineParts → List Field → Type 0
+IsFirstAmong parts fields = (fault_among parts fields ≡ None) ⊎ (fault_among parts fields ≡ fault_of parts)
+
+-- the version is there and is 1
+abbrev pub is_version_1 : Option ℕ → Option MachineFault
+is_version_1 None = None
+is_version_1 (Some version) = if version == 1 then None else Some (Range version_key version)
+
+unfoldable pub version_fault : Data → Option MachineFault
+version_fault description =
+    option_or (kind_fault true version_key (get version_key description))
+    (is_version_1 (option_and_then whole_number (get version_key description)))
+
+-- the costs are an object of nothing but costs
+abbrev pub members_fault : Option Members → Option MachineFault
+members_fault None = Some (Kind costs_key)
+members_fault (Some members) = option_map (λ name. Unknown (cost_prefix ++ name)) (unknown_in tables.Costs members)
+
+abbrev pub costs_at : Option Data → Option MachineFault
+costs_at None = None
+costs_at (Some costs) = members_fault (as_object costs)
+
+unfoldable pub costs_fault : Data → Option MachineFault
+costs_fault description = costs_at (get costs_key description)
