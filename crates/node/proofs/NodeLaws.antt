@@ -1,6 +1,5 @@
 -- The machine keeps the laws of a simulation.
-use Rattle.std.proofs.Common.{◌≡◌, ◌≢◌, ℕ, suc, ◌+◌, ◌/◌, ◌%◌, ◌^◌, ◌<◌, ◌≤◌, ◌==◌, max, Bool, true, false, cond, List, [], ◌∷◌, ◌++◌, Option, Some, None, Result, Ok, Err, refl, ap, sym, ◌∙◌, subst, arith}
-use Rattle.std.specs.declared.cmp.Ordering.TheVariants.{Less}
+use Rattle.std.proofs.Common.{◌≡◌, ℕ, suc, ◌+◌, ◌/◌, ◌%◌, ◌^◌, ◌<◌, ◌≤◌, ◌==◌, max, Bool, true, false, cond, List, [], ◌∷◌, ◌++◌, Option, Some, None, Result, Ok, Err, refl, ap, sym, ◌∙◌, subst, arith}
 use Rattle.wt_params.specs.declared.parts.CostParts.{CostParts}
 use Rattle.wt_params.specs.declared.parts.MachineParts.{MachineParts}
 use Rattle.wt_params.specs.Machine.{AreCosts, IsMachine}
@@ -15,17 +14,16 @@ use Rattle.rv_exec.specs.Meaning.{meaning_of, address_after, transferred, IfNext
 use Rattle.priv_mem.specs.declared.fault.MemFault.{MemFault}
 use Rattle.priv_mem.specs.declared.fault.MemFault.TheVariants.{Misaligned, Outside}
 use Rattle.wt_proto.specs.declared.key.Key.{Key}
-use Rattle.wt_proto.specs.KeyOrder.{key_cmp}
 use Rattle.wt_proto.specs.declared.mode.Cause.{Cause}
 use Rattle.wt_proto.specs.declared.mode.Cause.TheVariants as causes
 use Rattle.wt_proto.specs.declared.mode.Mode.{Mode}
 use Rattle.wt_proto.specs.declared.mode.Mode.TheVariants.{Running, Waiting, InBarrier, Stopped}
-use Rattle.discrete_events.specs.Simulation.{Event, Step, Arrival, Message, step_key}
+use Rattle.discrete_events.specs.Simulation.{Event, Step, Arrival, step_key}
 use Rattle.discrete_events.specs.KeyTimes.{earlier_less}
 use Rattle.discrete_events.specs.Laws.{IsDue, Reacts, IsSimulation}
 use Rattle.node.specs.NodeState.{NodeState, events_of}
-use Rattle.node.specs.Event.{Body, step_time, step_in, next_step_of, register, with_register, next_key, one_done, finished, stopped, exited, refused_access, accessed, called, after_effect, executed, fetched, step_of, stepped, counted_step, react, wind_tunnel}
-use Rattle.node.specs.Laws.{IsOfMachine, Fits, IsWindTunnel, MachinesAreSimulations}
+use Rattle.node.specs.Event.{Body, step_time, step_in, next_step_of, register, with_register, one_done, finished, stopped, exited, refused_access, accessed, called, after_effect, fetched, step_of, counted_step, react, wind_tunnel}
+use Rattle.node.specs.Laws.{IsOfMachine, Fits, MachinesAreSimulations}
 
 -- ---- what an instruction costs
 

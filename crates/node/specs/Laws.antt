@@ -1,5 +1,5 @@
 -- What the nodes of the machine keep and which messages fit, for the laws of a simulation. Own.
-use Rattle.std.specs.Prelude.{ℕ, ◌<◌, ◌≤◌}
+use Rattle.std.specs.Prelude.{◌<◌, ◌≤◌}
 use Rattle.wt_params.specs.declared.parts.MachineParts.{MachineParts}
 use Rattle.wt_params.specs.Machine.{IsMachine}
 use Rattle.discrete_events.specs.Simulation.{Message}
