@@ -1,5 +1,5 @@
 -- What follows for a text that is written in parts.
-use Rattle.std.specs.Prelude.{◌≡◌, ◌≢◌, ℕ, ◌+◌, ◌<◌, ◌≤◌, List, [], ◌∷◌, ◌++◌, length, take, drop, Option, Result, Ok, Err, OnOk, flat_map, refl}
+use Rattle.std.specs.Prelude.{◌≡◌, ◌≢◌, ℕ, ◌+◌, ◌<◌, ◌≤◌, List, [], ◌++◌, length, take, drop, Option, Result, Ok, Err, OnOk, flat_map, refl}
 use Rattle.std.proofs.Common.{ap, sym, subst, ◌∙◌, arith, get_or}
 use Rattle.std.proofs.lemmas.List.{take_more, take-append-drop, flat_map_more}
 use Rattle.std.proofs.lemmas.Result.{err_from_is_err_and}
@@ -86,8 +86,8 @@ writes_handed_on {x = x} {before = before} {now = now} {old = old} {new = new} r
     (subst (λ given. Writes x (Err given) before now old new) (sym is.2) stopped)
 
 -- the same of a text that is known to be another
-pub writes_same : {x y : List ℕ} {result : Result (Unit {0}) ListingFault} {before now : ℕ} {old new : Option (List ℕ)} → x ≡ y → Writes x result before now old new → Writes y result before now old new
-writes_same {result = result} {before = before} {now = now} {old = old} {new = new} same writes =
+pub writes_same : {x y : List ℕ} {before now : ℕ} {old new : Option (List ℕ)} (result : Result (Unit {0}) ListingFault) → x ≡ y → Writes x result before now old new → Writes y result before now old new
+writes_same {before = before} {now = now} {old = old} {new = new} result same writes =
     subst (λ l. Writes l result before now old new) same writes
 
 -- ---- one call of a sink

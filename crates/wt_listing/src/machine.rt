@@ -75,11 +75,7 @@ fn field_line(alloc: Global, machine: &MachineParts, field: Field) -> Result<Lin
 }
 
 /// Writes a line for each of these images.
-fn write_images<K: Sink>(
-    alloc: Global,
-    images: &[Image],
-    out: &mut K,
-) -> Result<(), ListingFault>
+fn write_images<K: Sink>(alloc: Global, images: &[Image], out: &mut K) -> Result<(), ListingFault>
     ensures { Writes (flat_map image_line_of (enumerate_from 0 images.now)) result (K.faults out.old) (K.faults out.new) (K.written out.old) (K.written out.new) }
 {
     for (number, image) in images.iter().enumerate() {

@@ -38,11 +38,7 @@ fn write_segments<K: Sink>(
 }
 
 /// Writes the whole words of a segment's own bytes.
-fn write_segment<K: Sink>(
-    alloc: Global,
-    segment: &Segment,
-    out: &mut K,
-) -> Result<(), ListingFault>
+fn write_segment<K: Sink>(alloc: Global, segment: &Segment, out: &mut K) -> Result<(), ListingFault>
     ensures { Writes (segment_text segment.now) result (K.faults out.old) (K.faults out.new) (K.written out.old) (K.written out.new) }
 {
     let bytes = segment.bytes.get();

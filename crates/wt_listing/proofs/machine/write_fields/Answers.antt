@@ -1,4 +1,4 @@
-use Rattle.std.proofs.Common.{rules, arith, get_or}
+use Rattle.std.proofs.Common.{rules, arith}
 use Rattle.wt_listing.specs.Listing.{field_line_of}
 use Rattle.wt_listing.proofs.WriteLemmas.{writes_all, writes_handed_on, writes_until}
 use Rattle.wt_listing.proofs.machine.write_fields.Goals as goal
