@@ -1,5 +1,5 @@
 ghost use Rattle.std.specs.Prelude.{◌≡◌};
-ghost use Rattle.wt_listing.specs.declared.fault.ListingFault.TheVariants.{Failed, NoMemory};
+ghost use Rattle.wt_listing.specs.declared.fault.ListingFault.TheVariants.{NoMemory};
 
 /// Why a text wasn't written whole.
 #[derive(Clone, Copy, Debug, PartialEq, Eq)]
@@ -8,14 +8,6 @@ pub enum ListingFault {
     Failed,
     /// Memory was wanted and refused.
     NoMemory,
-}
-
-impl From<wt_outside::Failed> for ListingFault {
-    ghost from_gives = { λ _ fault. fault ≡ Failed };
-
-    fn from(_error: wt_outside::Failed) -> ListingFault {
-        ListingFault::Failed
-    }
 }
 
 impl From<wt_params::NoMemory> for ListingFault {
