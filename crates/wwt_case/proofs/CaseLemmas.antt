@@ -1,0 +1,71 @@
+-- What a job's parts read is what the job reads.
+use Rattle.std.proofs.Common.{◌≡◌, ℕ, List, [], ◌∷◌, Option, Some, Result, Ok, Err, ◌++◌, sym, ap, ap₂, subst, ◌∙◌}
+use Rattle.elf_image.specs.declared.image.Image.{Image}
+use Rattle.elf_image.specs.Flat.{flat_image}
+use Rattle.image_loader.specs.Images.{LoadedImages, loaded_with}
+use Rattle.wt_params.specs.declared.parts.MachineParts.{MachineParts}
+use Rattle.wt_params.specs.Machine.{flat_machine}
+use Rattle.machine_json.specs.Description.{description_of}
+use Rattle.machine_json.specs.declared.description.Description.{Description}
+use Rattle.machine_json.specs.declared.description.ImageSpec.{ImageSpec}
+use Rattle.wt_outside.specs.Files.{Files}
+use Rattle.wwt_words.specs.declared.command.Command.{Command}
+use Rattle.wwt_words.specs.declared.command.Command.TheVariants as commands
+use Rattle.wwt_words.specs.Words.{command_of}
+use Rattle.wwt_case.specs.declared.job.Job.{Job}
+use Rattle.wwt_case.specs.declared.refusal.Refusal.{Refusal}
+use Rattle.wwt_case.specs.Programs.{images_from, names_from}
+use Rattle.wwt_case.specs.Case.{case_of, names_of, command_case, command_names, check_case, check_names, dis_case, flat_case, description_case, description_or, machine_case, input_name, IsFlat}
+use Rattle.wwt_case.specs.Reading.{Answers, Store, Reads}
+use Rattle.wwt_case.proofs.ReadLemmas.{reads_then, reads_stopped}
+
+-- the images of a description, from none on
+pub all_images : (description : Description) (found : List Image) (entries : List ImageSpec) (store : Store) (result : Result (List Image) Refusal) → found ≡ [] → entries ≡ description.images → Reads (images_from found 0 entries) (names_from 0 entries) store result → Reads (images_from [] 0 description.images) (names_from 0 description.images) store result
+all_images description found entries store result none all read =
+    subst (λ (f : List Image). Reads (images_from f 0 description.images) (names_from 0 description.images) store result) none
+    (subst (λ (e : List ImageSpec). Reads (images_from found 0 e) (names_from 0 e) store result) all read)
+
+-- a description, and then its machine
+pub check_done : (name : List ℕ) (description : Description) (files after : Option Files) (f0 f1 f2 r0 r1 r2 : ℕ) (result : Result Job Refusal) → after ≡ files
+    → Reads (description_case name) (λ _. name ∷ []) (record { files = files; faults_before = f0; faults_now = f1; reads_before = r0; reads_now = r1 }) (Ok description)
+    → Reads (machine_case description) (names_from 0 description.images) (record { files = after; faults_before = f1; faults_now = f2; reads_before = r1; reads_now = r2 }) result
+    → Reads (check_case name) (check_names name) (record { files = files; faults_before = f0; faults_now = f2; reads_before = r0; reads_now = r2 }) result
+check_done name description files after f0 f1 f2 r0 r1 r2 result same first second =
+    reads_then (description_case name) (λ _. name ∷ []) machine_case (λ (d : Description) given. names_from 0 d.images given) files f0 f1 f2 r0 r1 r2 description result
+    first (subst (λ (t : Option Files). Reads (machine_case description) (names_from 0 description.images) (record { files = t; faults_before = f1; faults_now = f2; reads_before = r1; reads_now = r2 }) result) same second)
+
+pub check_stopped : (name : List ℕ) (store : Store) (refusal : Refusal) → Reads (description_case name) (λ _. name ∷ []) store (Err refusal) → Reads (check_case name) (check_names name) store (Err refusal)
+check_stopped name store refusal first =
+    reads_stopped (description_case name) (λ _. name ∷ []) machine_case (λ (d : Description) given. names_from 0 d.images given) store refusal first
+
+-- the commands
+pub of_check : (command : Command) (machine name : List ℕ) (store : Store) (result : Result Job Refusal) → command ≡ commands.Check machine → name ≡ machine → Reads (check_case name) (check_names name) store result → Reads (command_case (Some command)) (command_names (Some command)) store result
+of_check command machine name store result is same read =
+    subst (λ (c : Command). Reads (command_case (Some c)) (command_names (Some c)) store result) (sym is)
+    (subst (λ (n : List ℕ). Reads (check_case n) (check_names n) store result) same read)
+
+pub of_dis : (command : Command) (image name : List ℕ) (store : Store) (result : Result Job Refusal) → command ≡ commands.Dis image → name ≡ image → Reads (dis_case name) (λ _. name ∷ []) store result → Reads (command_case (Some command)) (command_names (Some command)) store result
+of_dis command image name store result is same read =
+    subst (λ (c : Command). Reads (command_case (Some c)) (command_names (Some c)) store result) (sym is)
+    (subst (λ (n : List ℕ). Reads (dis_case n) (λ _. n ∷ []) store result) same read)
+
+pub of_flat : (command : Command) (store : Store) (result : Result Job Refusal) → command ≡ commands.Flat → Reads flat_case (λ _. input_name ∷ []) store result → Reads (command_case (Some command)) (command_names (Some command)) store result
+of_flat command store result is read =
+    subst (λ (c : Command). Reads (command_case (Some c)) (command_names (Some c)) store result) (sym is) read
+
+-- the words of a command
+pub of_words : (words : List (List ℕ)) (command : Command) (store : Store) (result : Result Job Refusal) → command_of words ≡ Some command → Reads (command_case (Some command)) (command_names (Some command)) store result → Reads (case_of words) (names_of words) store result
+of_words words command store result is read =
+    subst (λ (c : Option Command). Reads (command_case c) (command_names c) store result) (sym is) read
+
+-- flat bytes are loaded alone
+pub loaded_flat : (machine : MachineParts) (bytes : List ℕ) (image : Image) (none pushed images : List Image) (loaded : LoadedImages) → machine ≡ flat_machine → image ≡ flat_image bytes 0 → none ≡ [] → pushed ≡ none ++ image ∷ [] → images ≡ pushed → loaded ≡ loaded_with machine images → IsFlat loaded
+loaded_flat machine bytes image none pushed images loaded flat image_is none_is more all is = record {
+  bytes = bytes;
+  loaded_is = is ∙ ap₂ loaded_with flat (all ∙ (more ∙ (ap (λ (t : List Image). t ++ image ∷ []) none_is ∙ ap (λ (i : Image). i ∷ []) image_is)));
+}
+
+-- the bytes of a description
+pub described : (text bytes : List ℕ) (result : Result Description Refusal) → text ≡ bytes → Answers (description_or (description_of text)) result → Answers (description_or (description_of bytes)) result
+described text bytes result same answer =
+    subst (λ (b : List ℕ). Answers (description_or (description_of b)) result) same answer

@@ -1,0 +1,4 @@
+pub mod ReadLemmas
+pub mod ProgramLemmas
+pub mod ImageLemmas
+pub mod CaseLemmas

@@ -1,0 +1,238 @@
+ghost use Rattle.std.specs.Prelude.{◌≡◌, ◌≢◌, ◌⊎◌, ◌∷◌, [], Some, Err, All, length, map, string_bytes, true, IfOk, IsErrOf};
+ghost use Rattle.elf_image.specs.Sizes.{HoldsItsBytes};
+ghost use Rattle.machine_json.specs.Description.{description_of, HasImages};
+ghost use Rattle.wwt_case.specs.Case.{case_of, names_of, is_usage_of, command_case, command_names, check_case, check_names, machine_case, loaded_check, description_case, description_or, dis_case, dis_of, flat_case, flat_of, input_name, IsReady};
+ghost use Rattle.wwt_case.specs.Programs.{names_from};
+ghost use Rattle.wwt_case.specs.Reading.{Answers, Reads, IsOther};
+ghost use Rattle.wwt_words.specs.Words.{command_of};
+
+use crate::images::{Images, read_images};
+use crate::job::Job;
+use crate::name::Name;
+use crate::program::{flat, has_magic, load_images, program};
+use crate::read::read_file;
+use crate::refusal::{FileKind, Refusal};
+use elf_image::Bytes;
+use machine_json::{Description, MachineFault, read_machine};
+use std::alloc::Global;
+use wt_outside::Store;
+use wt_params::Machine;
+use wwt_words::{Command, WordFault, read_words};
+
+/// The job that the words and the files of the store call for, or why there is none. Files are read in order, each
+/// once, and none after a refusal.
+pub fn prepare<S: Store>(alloc: Global, words: &[String], store: &mut S) -> Result<Job, Refusal>
+    ensures read { Reads (case_of (map string_bytes words.now)) (names_of (map string_bytes words.now)) (record {
+      files = S.files store.old;
+      faults_before = S.faults store.old;
+      faults_now = S.faults store.new;
+      reads_before = S.reads store.old;
+      reads_now = S.reads store.new;
+    }) result }
+    ensures ready { IfOk result IsReady }
+    ensures usage { IsErrOf result Refusal.Usage → is_usage_of (command_of (map string_bytes words.now)) ≡ true }
+    ensures refused { is_usage_of (command_of (map string_bytes words.now)) ≡ true → store.new ≡ store.old }
+    ensures reads { result ≢ Err Refusal.Write }
+{
+    match read_words(alloc, words) {
+        Ok(command) => prepare_command(alloc, &command, store),
+        Err(WordFault::Usage) => Err(Refusal::Usage),
+        Err(WordFault::NoMemory) => Err(Refusal::Memory),
+    }
+}
+
+/// The job of a command.
+fn prepare_command<S: Store>(
+    alloc: Global,
+    command: &Command,
+    store: &mut S,
+) -> Result<Job, Refusal>
+    ensures read { Reads (command_case (Some command.now)) (command_names (Some command.now)) (record {
+      files = S.files store.old;
+      faults_before = S.faults store.old;
+      faults_now = S.faults store.new;
+      reads_before = S.reads store.old;
+      reads_now = S.reads store.new;
+    }) result }
+    ensures ready { IfOk result IsReady }
+    ensures usage { IsErrOf result Refusal.Usage → is_usage_of (Some command.now) ≡ true }
+    ensures refused { is_usage_of (Some command.now) ≡ true → store.new ≡ store.old }
+    ensures reads { result ≢ Err Refusal.Write }
+{
+    match command {
+        Command::Check { machine } => prepare_check(alloc, machine.get(), store),
+        Command::Dis { image } => prepare_dis(alloc, image.get(), store),
+        Command::Flat => prepare_flat(alloc, store),
+        Command::Run { .. } | Command::Load { .. } => Err(Refusal::Usage),
+    }
+}
+
+/// The machine of a description, with its images loaded.
+fn prepare_check<S: Store>(alloc: Global, name: &str, store: &mut S) -> Result<Job, Refusal>
+    ensures read { Reads (check_case name.now) (check_names name.now) (record {
+      files = S.files store.old;
+      faults_before = S.faults store.old;
+      faults_now = S.faults store.new;
+      reads_before = S.reads store.old;
+      reads_now = S.reads store.new;
+    }) result }
+    ensures ready { IfOk result IsReady }
+    ensures other { IsOther result }
+{
+    match read_description(alloc, name, store) {
+        Ok(description) => prepare_machine(alloc, &description, store),
+        Err(refusal) => Err(refusal),
+    }
+}
+
+/// The machine of a description, with the images read and loaded.
+fn prepare_machine<S: Store>(
+    alloc: Global,
+    description: &Description,
+    store: &mut S,
+) -> Result<Job, Refusal>
+    requires { HasImages description.now }
+    ensures read { Reads (machine_case description.now) (names_from 0 description.now.images) (record {
+      files = S.files store.old;
+      faults_before = S.faults store.old;
+      faults_now = S.faults store.new;
+      reads_before = S.reads store.old;
+      reads_now = S.reads store.new;
+    }) result }
+    ensures ready { IfOk result IsReady }
+    ensures other { IsOther result }
+{
+    let machine = &description.machine;
+    // (one image for each of 32 nodes at most)
+    let _nodes = machine.nodes();
+    match read_images(
+        alloc,
+        Images::new(alloc),
+        0,
+        description.images.get(),
+        store,
+    ) {
+        Ok(images) => loaded_check(machine, images),
+        Err(refusal) => Err(refusal),
+    }
+}
+
+/// A machine with its images loaded.
+fn loaded_check(machine: &Machine, images: Images) -> Result<Job, Refusal>
+    requires count { (length images ≡ 1) ⊎ (length images ≡ machine.now.nodes) }
+    requires bytes { All HoldsItsBytes images }
+    ensures answer { Answers (loaded_check machine.now images) result }
+    ensures ready { IfOk result IsReady }
+    ensures other { IsOther result }
+{
+    match load_images(machine, images.into_inner()) {
+        Ok(loaded) => Ok(Job::Check {
+            machine: *machine,
+            loaded,
+        }),
+        Err(refusal) => Err(refusal),
+    }
+}
+
+/// The description of a name.
+fn read_description<S: Store>(
+    alloc: Global,
+    name: &str,
+    store: &mut S,
+) -> Result<Description, Refusal>
+    ensures read { Reads (description_case name.now) (λ _. name.now ∷ []) (record {
+      files = S.files store.old;
+      faults_before = S.faults store.old;
+      faults_now = S.faults store.new;
+      reads_before = S.reads store.old;
+      reads_now = S.reads store.new;
+    }) result }
+    ensures files { S.files store.new ≡ S.files store.old }
+    ensures images { IfOk result HasImages }
+    ensures other { IsOther result }
+{
+    let file = Name::new(alloc, name)?;
+    match read_file(store, file, FileKind::Description) {
+        Ok(bytes) => describe(alloc, bytes.get()),
+        Err(refusal) => Err(refusal),
+    }
+}
+
+/// What the bytes of a description say.
+fn describe(alloc: Global, bytes: &[u8]) -> Result<Description, Refusal>
+    ensures answer { Answers (description_or (description_of bytes.now)) result }
+    ensures images { IfOk result HasImages }
+    ensures other { IsOther result }
+{
+    match read_machine(alloc, bytes) {
+        Ok(description) => Ok(description),
+        Err(MachineFault::NoMemory) => Err(Refusal::Memory),
+        Err(fault) => Err(Refusal::Machine { fault }),
+    }
+}
+
+/// The image of a name, whose words are to be printed.
+fn prepare_dis<S: Store>(alloc: Global, name: &str, store: &mut S) -> Result<Job, Refusal>
+    ensures read { Reads (dis_case name.now) (λ _. name.now ∷ []) (record {
+      files = S.files store.old;
+      faults_before = S.faults store.old;
+      faults_now = S.faults store.new;
+      reads_before = S.reads store.old;
+      reads_now = S.reads store.new;
+    }) result }
+    ensures ready { IfOk result IsReady }
+    ensures other { IsOther result }
+{
+    let file = Name::new(alloc, name)?;
+    match read_file(store, file, FileKind::Image { number: 0 }) {
+        Ok(bytes) => dis_job(alloc, bytes),
+        Err(refusal) => Err(refusal),
+    }
+}
+
+/// The image of the bytes of a file, which is an executable where it begins as one does.
+fn dis_job(alloc: Global, bytes: Bytes) -> Result<Job, Refusal>
+    ensures answer { Answers (dis_of bytes) result }
+    ensures ready { IfOk result IsReady }
+    ensures other { IsOther result }
+{
+    let elf = has_magic(bytes.get());
+    match program(alloc, 0, elf, 0, bytes) {
+        Ok(image) => Ok(Job::Dis { image }),
+        Err(refusal) => Err(refusal),
+    }
+}
+
+/// Flat bytes from standard input.
+fn prepare_flat<S: Store>(alloc: Global, store: &mut S) -> Result<Job, Refusal>
+    ensures read { Reads flat_case (λ _. input_name ∷ []) (record {
+      files = S.files store.old;
+      faults_before = S.faults store.old;
+      faults_now = S.faults store.new;
+      reads_before = S.reads store.old;
+      reads_now = S.reads store.new;
+    }) result }
+    ensures ready { IfOk result IsReady }
+    ensures other { IsOther result }
+{
+    let file = Name::new(alloc, "-")?;
+    match read_file(store, file, FileKind::Image { number: 0 }) {
+        Ok(bytes) => flat_job(alloc, bytes),
+        Err(refusal) => Err(refusal),
+    }
+}
+
+/// Flat bytes, loaded into the flat machine.
+fn flat_job(alloc: Global, bytes: Bytes) -> Result<Job, Refusal>
+    ensures answer { Answers (flat_of bytes) result }
+    ensures ready { IfOk result IsReady }
+    ensures other { IsOther result }
+{
+    let image = flat(alloc, bytes.into_inner(), 0)?;
+    let mut images = Images::new(alloc);
+    images.push(image)?;
+    match load_images(&Machine::flat(), images.into_inner()) {
+        Ok(loaded) => Ok(Job::Flat { loaded }),
+        Err(refusal) => Err(refusal),
+    }
+}
