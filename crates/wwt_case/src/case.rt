@@ -1,4 +1,4 @@
-ghost use Rattle.std.specs.Prelude.{◌≡◌, ◌≢◌, ◌⊎◌, ◌∷◌, [], Some, Err, All, length, map, string_bytes, true, IfOk, IsErrOf};
+ghost use Rattle.std.specs.Prelude.{◌≡◌, ◌≢◌, ◌⊎◌, ◌∷◌, [], Some, Err, All, length, map, string_bytes, true, false, IfOk, IsErrOf};
 ghost use Rattle.elf_image.specs.Sizes.{HoldsItsBytes};
 ghost use Rattle.machine_json.specs.Description.{description_of, HasImages};
 ghost use Rattle.wwt_case.specs.Case.{case_of, names_of, is_usage_of, command_case, command_names, check_case, check_names, machine_case, loaded_check, description_case, description_or, dis_case, dis_of, flat_case, flat_of, input_name, IsReady};
@@ -30,6 +30,7 @@ pub fn prepare<S: Store>(alloc: Global, words: &[String], store: &mut S) -> Resu
       reads_now = S.reads store.new;
     }) result }
     ensures ready { IfOk result IsReady }
+    ensures accepted { IfOk result (λ _. is_usage_of (command_of (map string_bytes words.now)) ≡ false) }
     ensures usage { IsErrOf result Refusal.Usage → is_usage_of (command_of (map string_bytes words.now)) ≡ true }
     ensures refused { is_usage_of (command_of (map string_bytes words.now)) ≡ true → store.new ≡ store.old }
     ensures reads { result ≢ Err Refusal.Write }
@@ -55,6 +56,7 @@ fn prepare_command<S: Store>(
       reads_now = S.reads store.new;
     }) result }
     ensures ready { IfOk result IsReady }
+    ensures accepted { IfOk result (λ _. is_usage_of (Some command.now) ≡ false) }
     ensures usage { IsErrOf result Refusal.Usage → is_usage_of (Some command.now) ≡ true }
     ensures refused { is_usage_of (Some command.now) ≡ true → store.new ≡ store.old }
     ensures reads { result ≢ Err Refusal.Write }

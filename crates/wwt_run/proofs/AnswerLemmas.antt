@@ -1,72 +1,80 @@
--- Which status and which line go with which answer.
-use Rattle.std.proofs.Common.{◌≡◌, ℕ, List, [], Option, Some, ap, sym, ◌∙◌, subst, refl, ◌⊎◌, inl, inr}
-use Rattle.wt_outside.proofs.GrowthLemmas.{grows_nothing, prefix_nothing}
-use Rattle.wwt_run.specs.declared.refusal.Refusal.{Refusal}
-use Rattle.wwt_run.specs.declared.refusal.Refusal.TheVariants as refusals
+-- Which status goes with which end.
+use Rattle.std.proofs.Common.{◌≡◌, ◌≢◌, ℕ, List, [], Option, Some, Result, Ok, Err, IfOk, ◌⊎◌, inl, inr, Bool, true, false, cond, ap, sym, ◌∙◌, subst, refl}
+use Rattle.wt_outside.specs.Growth.{Grows}
+use Rattle.wwt_case.specs.declared.job.Job.{Job}
+use Rattle.wwt_case.specs.declared.job.Job.TheVariants.{Check, Dis, Flat}
+use Rattle.wwt_case.specs.declared.refusal.Refusal.{Refusal}
+use Rattle.wwt_case.specs.declared.refusal.Refusal.TheVariants as refusals
+use Rattle.node.specs.NodeState.{NodeState}
+use Rattle.wwt_run.specs.declared.head.Outcome.{Outcome}
+use Rattle.wwt_run.specs.declared.head.Outcome.TheVariants as outcomes
 use Rattle.wwt_run.specs.declared.status.Status.{Status}
 use Rattle.wwt_run.specs.declared.status.Status.TheVariants.{Done, NodeFault, Usage, Budget, EventLimit, Stalled, BadMachine, BadImage, ReadFault, WriteFault, NoMemory}
-use Rattle.wwt_run.specs.Status.{status_of_refusal}
-use Rattle.wwt_run.specs.Answer.{IsRun, IsEarlyStatus, IsErrorLine, MaySay, SaysLine}
+use Rattle.wwt_run.specs.Status.{status_of_refusal, status_after_of}
+use Rattle.wt_params.specs.Machine.{flat_machine}
+use Rattle.wwt_run.specs.Outcome.{outcome_of}
+use Rattle.wwt_run.specs.Jobs.{final_flat, status_of_job, status_of, output_of, flat_bytes, status_of_run}
+use Rattle.wwt_run.specs.Answer.{Ends, IsDone, IsEarly}
 
--- the status of a run is none of another answer
-pub still_run : (status other : Status) → IsRun status → Some status ≡ Some other → IsRun other
-still_run status other run same = let is : status ≡ other = cc in subst IsRun is run
+either_done : (b : Bool) → IsDone (cond b Done NodeFault)
+either_done true = tt
+either_done false = tt
 
-pub run_isnt_early : (status : Status) → IsRun status → IsEarlyStatus status → ⊥
-run_isnt_early Done run early = early
-run_isnt_early NodeFault run early = early
-run_isnt_early Budget run early = early
-run_isnt_early EventLimit run early = early
-run_isnt_early Stalled run early = early
-run_isnt_early Usage run early = run
-run_isnt_early BadMachine run early = run
-run_isnt_early BadImage run early = run
-run_isnt_early ReadFault run early = run
-run_isnt_early WriteFault run early = run
-run_isnt_early NoMemory run early = run
+run_is_done : (outcome : Outcome) (nodes : List NodeState) → IsDone (status_after_of outcome nodes)
+run_is_done outcomes.Finished nodes = either_done _
+run_is_done outcomes.Budget nodes = tt
+run_is_done outcomes.EventLimit nodes = tt
+run_is_done outcomes.Stalled nodes = tt
 
-pub refusal_isnt_run : (reason : Refusal) → IsRun (status_of_refusal reason) → ⊥
-refusal_isnt_run refusals.Usage run = run
-refusal_isnt_run refusals.Read run = run
-refusal_isnt_run (refusals.Image refusal) run = run
-refusal_isnt_run refusals.Write run = run
-refusal_isnt_run refusals.Memory run = run
+flat_is_done : (bytes : List ℕ) → IsDone (status_of_run bytes)
+unfolding status_of_run
+flat_is_done bytes = run_is_done (outcome_of flat_machine (final_flat bytes)) (final_flat bytes).nodes
 
--- a run says nothing
-no_line : (status : Status) → IsRun status → IsErrorLine status []
-no_line Done run = refl
-no_line NodeFault run = refl
-no_line Budget run = refl
-no_line EventLimit run = refl
-no_line Stalled run = refl
-no_line Usage run = absurd run
-no_line BadMachine run = absurd run
-no_line BadImage run = absurd run
-no_line ReadFault run = absurd run
-no_line WriteFault run = absurd run
-no_line NoMemory run = absurd run
+job_is_done : (job : Job) → IsDone (status_of_job job)
+job_is_done (Check machine loaded) = tt
+job_is_done (Dis image) = tt
+job_is_done (Flat loaded) = flat_is_done (flat_bytes loaded)
 
-pub run_says_nothing : (status : Status) (count : ℕ) (written : Option (List ℕ)) → IsRun status → SaysLine status count count written written
-run_says_nothing status count written run = record {
-  line = [];
-  is_line = no_line status run;
-  whole = λ stood. grows_nothing refl;
-  part = prefix_nothing refl;
-}
+pub end_is_done : (job : Job) (result : Result Status Refusal) → IfOk result (λ status. status ≡ status_of_job job) → IfOk result IsDone
+end_is_done job (Ok status) is = subst IsDone (sym is) (job_is_done job)
+end_is_done job (Err refusal) is = tt
 
-only_memory : (reason : Refusal) → NoMemory ≡ status_of_refusal reason → reason ≡ refusals.Memory
-only_memory refusals.Usage e = cc
-only_memory refusals.Read e = cc
-only_memory (refusals.Image refusal) e = cc
-only_memory refusals.Write e = cc
-only_memory refusals.Memory e = refl
+-- no job's status is that of a refusal
+pub not_done : (status other : Status) → IsDone status → (IsDone other → ⊥) → Some status ≡ Some other → ⊥
+not_done status other done none same = let is : status ≡ other = cc in none (subst IsDone is done)
 
--- where the status is that of a reason, the reason is what was told
-pub told_reason : (reason refusal said : Refusal) (status : Status) → (refusal ≡ reason) ⊎ (refusal ≡ refusals.Memory) → MaySay refusal said → status ≡ status_of_refusal said → status ≡ status_of_refusal reason → said ≡ reason
-told_reason reason refusal said status answered may_say is same =
-    let memory : said ≡ refusals.Memory → said ≡ reason =
-    λ m. m ∙ sym (only_memory reason (sym (ap status_of_refusal m) ∙ sym is ∙ same)) in
-    elim may_say [
-      | inl told ↦ elim answered [ inl exact ↦ told ∙ exact | inr out ↦ memory (told ∙ out) ]
-      | inr other ↦ memory other.1
+pub ok_status : (wanted : Result Job Refusal) (status : Status) → Ends wanted (Ok status) → status ≡ status_of wanted
+ok_status (Ok job) status is = is
+ok_status (Err reason) status is = absurd is
+
+early_or : (refusal : Refusal) → (refusal ≡ refusals.Write) ⊎ ((refusal ≡ refusals.Memory) ⊎ IsEarly (Err refusal))
+early_or refusals.Usage = inr (inr tt)
+early_or (refusals.Read name) = inr (inr tt)
+early_or (refusals.Machine fault) = inr (inr tt)
+early_or (refusals.Image number why) = inr (inr tt)
+early_or refusals.Write = inl refl
+early_or refusals.Memory = inr (inl refl)
+
+-- a refusal in which no fault of the output rose
+pub refused_end : (wanted : Result Job Refusal) (refusal : Refusal) (status : Status) (a b : Option (List ℕ)) → status ≡ status_of_refusal refusal → Ends wanted (Err refusal) → refusal ≢ refusals.Write → (IsEarly (Err refusal) → Grows a b []) → (Some status ≡ Some NoMemory) ⊎ ((Some status ≡ Some (status_of wanted)) × Grows a b (output_of wanted))
+refused_end (Ok job) refusal status a b is ends unwritten early =
+    elim ends [ inl write ↦ absurd (unwritten write) | inr memory ↦ inl (ap Some (is ∙ ap status_of_refusal memory)) ]
+refused_end (Err reason) refusal status a b is ends unwritten early =
+    elim ends [
+    | inl same ↦ elim (early_or refusal) [
+      | inl write ↦ absurd (unwritten write)
+      | inr other ↦ elim other [
+        | inl memory ↦ inl (ap Some (is ∙ ap status_of_refusal memory))
+        | inr soon ↦ inr (ap Some (is ∙ ap status_of_refusal same), early soon)
+        ]
+      ]
+    | inr memory ↦ inl (ap Some (is ∙ ap status_of_refusal memory))
     ]
+
+pub read_of : (refusal : Refusal) → status_of_refusal refusal ≡ ReadFault → (name : List ℕ) × (refusal ≡ refusals.Read name)
+read_of refusals.Usage e = cc
+read_of (refusals.Read name) e = (name, refl)
+read_of (refusals.Machine fault) e = cc
+read_of (refusals.Image number why) e = cc
+read_of refusals.Write e = cc
+read_of refusals.Memory e = cc

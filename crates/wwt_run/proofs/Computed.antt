@@ -11,7 +11,7 @@ use Rattle.node.specs.Event.{wind_tunnel}
 use Rattle.wwt_run.specs.declared.status.Status.TheVariants.{Done, NodeFault}
 use Rattle.wwt_run.specs.World.{alone}
 use Rattle.wwt_run.specs.Alone.{world_of}
-use Rattle.wwt_run.specs.Case.{out_of, output_of_run, status_of_run}
+use Rattle.wwt_run.specs.Jobs.{out_of, output_of_run, status_of_run}
 use Rattle.wwt_run.specs.Report.{report}
 use Rattle.wwt_run.specs.Status.{status_of_world, status_after_of}
 use Rattle.wt_text.proofs.OnLiterals.{text_on_literals}

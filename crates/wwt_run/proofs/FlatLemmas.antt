@@ -11,7 +11,7 @@ use Rattle.wwt_run.specs.World.{alone}
 use Rattle.wwt_run.specs.Outcome.{head_of, outcome_of}
 use Rattle.wwt_run.specs.Report.{joined, report_lines}
 use Rattle.wwt_run.specs.Status.{status_after_of}
-use Rattle.wwt_run.specs.Case.{status_of_run, output_of_run}
+use Rattle.wwt_run.specs.Jobs.{status_of_run, output_of_run}
 
 -- a node of the flat machine has run from its start, and this is what it came to
 pub record HasRun (bytes : List ℕ) (machine : MachineParts) (start now : NodeState) (head : Head) : Type 0 where

@@ -3,6 +3,7 @@ pub mod Outcome
 pub mod Alone
 pub mod Report
 pub mod Status
-pub mod Case
+pub mod Refused
+pub mod Jobs
 pub mod Answer
 pub mod Examples

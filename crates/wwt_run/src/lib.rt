@@ -3,7 +3,7 @@
 
 mod flat;
 mod head;
-mod refusal;
+mod perform;
 mod refuse;
 mod report;
 mod simulate;
@@ -11,7 +11,6 @@ mod status;
 mod top;
 mod totals;
 
-pub use refusal::{ImageRefusal, Refusal};
 pub use refuse::out_of_memory;
 pub use status::Status;
 pub use top::wwt_plain;

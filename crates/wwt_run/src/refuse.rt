@@ -1,88 +1,183 @@
-ghost use Rattle.std.specs.Prelude.{◌≡◌, ◌++◌, IfOk, OnOk};
-ghost use Rattle.wwt_run.specs.Status.{error_line, image_text_of, status_of_refusal};
+ghost use Rattle.std.specs.Prelude.{◌≡◌, map, OnOk, OnErr};
+ghost use Rattle.wt_text.specs.Text.{eight_digits};
+ghost use Rattle.wt_outside.specs.Faults.{Rose};
+ghost use Rattle.wt_outside.specs.Growth.{Grows, GrowsByPrefix};
+ghost use Rattle.machine_json.specs.declared.fault.MachineFault.TheVariants.{Range};
+ghost use Rattle.wwt_case.specs.declared.refusal.Refusal.TheVariants.{Memory, Machine, Image};
 ghost use Rattle.wwt_run.specs.Answer.{Tells};
+ghost use Rattle.wwt_run.specs.Refused.{error_line, file_text_of};
+ghost use Rattle.wwt_run.specs.Report.{joined};
+ghost use Rattle.wwt_run.specs.Status.{status_of_refusal};
 
-use crate::refusal::{ImageRefusal, Refusal};
 use crate::status::Status;
-use std::alloc::Global;
-use wt_outside::Sink;
-use wt_params::NoMemory;
-use wt_text::Line;
+use elf_image::ImageFault;
+use itoa::Buffer;
+use machine_json::MachineFault;
+use wt_outside::{Failed, Sink};
+use wwt_case::{ImageRefusal, Refusal};
 
 const USAGE: &[u8] =
-    b"wwt: usage: run [--workers W] [--trace] [--memory] [--budget B] MACHINE, check MACHINE, load NUMBER [--workers W], dis IMAGE, flat\n";
+    b"wwt: usage: run [--workers W] [--trace] [--memory] [--budget B] MACHINE, check MACHINE, load NUMBER [--workers W], dis IMAGE, flat";
 
-/// Writes the one line that tells of a refusal, and answers the status that goes with it. That the line can't be
-/// written changes nothing else.
-#[tactic(auto, unfolding(crate::specs::Status::error_line))]
-pub fn refuse<E: Sink>(alloc: Global, refusal: Refusal, err: &mut E) -> Status
-    ensures { Tells refusal result (E.faults err.old) (E.faults err.new) (E.written err.old) (E.written err.new) }
+/// Writes the one line that tells of a refusal, and answers the status that goes with it. It takes no memory. That the
+/// line can't be written changes nothing else.
+#[tactic(auto, unfolding(crate::specs::Refused::error_line))]
+pub fn refuse<E: Sink>(refusal: &Refusal, err: &mut E) -> Status
+    ensures status { result ≡ status_of_refusal refusal.now }
+    ensures line { Tells (error_line refusal.now) (E.faults err.old) (E.faults err.new) (E.written err.old) (E.written err.new) }
 {
     match refusal {
-        Refusal::Usage => say(Refusal::Usage, USAGE, err),
-        Refusal::Read => say(Refusal::Read, b"wwt: cannot read -\n", err),
-        Refusal::Image { refusal } => refuse_image(alloc, refusal, err),
-        Refusal::Write => say(Refusal::Write, b"wwt: write failed\n", err),
+        Refusal::Usage => {
+            say(refusal, &[USAGE, b"\n"], err);
+            Status::Usage
+        }
+        Refusal::Read { name } => {
+            say(refusal, &[b"wwt: cannot read ", name.get().as_bytes(), b"\n"], err);
+            Status::ReadFault
+        }
+        Refusal::Machine { fault } => {
+            refuse_machine(refusal, fault, err);
+            Status::BadMachine
+        }
+        Refusal::Image { number, refusal: why } => {
+            refuse_image(refusal, *number, *why, err);
+            Status::BadImage
+        }
+        Refusal::Write => {
+            say(refusal, &[b"wwt: write failed", b"\n"], err);
+            Status::WriteFault
+        }
         Refusal::Memory => out_of_memory(err),
     }
 }
 
 /// Tells want of memory, where not even the words of the command line could be had.
-#[tactic(auto, unfolding(crate::specs::Status::error_line))]
+#[tactic(auto, unfolding(crate::specs::Refused::error_line))]
 pub fn out_of_memory<E: Sink>(err: &mut E) -> Status
-    ensures { Tells Refusal.Memory result (E.faults err.old) (E.faults err.new) (E.written err.old) (E.written err.new) }
+    ensures status { result ≡ status_of_refusal Memory }
+    ensures line { Tells (error_line Memory) (E.faults err.old) (E.faults err.new) (E.written err.old) (E.written err.new) }
 {
-    say(Refusal::Memory, b"wwt: out of memory\n", err)
+    say(&Refusal::Memory, &[b"wwt: out of memory", b"\n"], err);
+    Status::NoMemory
 }
 
-#[tactic(auto, unfolding(crate::specs::Status::error_line))]
-fn refuse_image<E: Sink>(alloc: Global, refusal: ImageRefusal, err: &mut E) -> Status
-    ensures { Tells (Refusal.Image refusal) result (E.faults err.old) (E.faults err.new) (E.written err.old) (E.written err.new) }
+#[tactic(auto, unfolding(crate::specs::Refused::error_line))]
+fn refuse_machine<E: Sink>(refusal: &Refusal, fault: &MachineFault, err: &mut E)
+    requires { refusal.now ≡ Machine fault.now }
+    ensures { Tells (error_line refusal.now) (E.faults err.old) (E.faults err.new) (E.written err.old) (E.written err.new) }
 {
-    match image_line(alloc, refusal) {
-        Ok(line) => say(Refusal::Image { refusal }, line.as_bytes(), err),
-        Err(NoMemory) => out_of_memory(err),
+    match fault {
+        MachineFault::TooLong => say(refusal, &[b"wwt: machine: ", b"too long", b"\n"], err),
+        MachineFault::Syntax => say(refusal, &[b"wwt: machine: ", b"syntax", b"\n"], err),
+        MachineFault::NotObject => say(refusal, &[b"wwt: machine: ", b"not an object", b"\n"], err),
+        MachineFault::Unknown(key) => {
+            say(refusal, &[b"wwt: machine: ", b"unknown ", key.get().as_bytes(), b"\n"], err)
+        }
+        MachineFault::Missing(key) => {
+            say(refusal, &[b"wwt: machine: ", b"missing ", key.get().as_bytes(), b"\n"], err)
+        }
+        MachineFault::Kind(key) => {
+            say(refusal, &[b"wwt: machine: ", b"kind ", key.get().as_bytes(), b"\n"], err)
+        }
+        MachineFault::Range(key, value) => {
+            refuse_range(refusal, key.get().as_bytes(), *value, err)
+        }
+        MachineFault::Hex(image) => {
+            let mut buffer = Buffer::new();
+            let number = buffer.format(*image).as_bytes();
+            say(refusal, &[b"wwt: machine: ", b"hex images.", number, b"\n"], err)
+        }
+        MachineFault::NoMemory => say(refusal, &[b"wwt: machine: ", b"out of memory", b"\n"], err),
     }
 }
 
-/// The line that tells of a refused image.
-#[tactic(auto, unfolding(crate::specs::Status::error_line))]
-fn image_line(alloc: Global, refusal: ImageRefusal) -> Result<Line, NoMemory>
-    ensures { IfOk result (λ line. line ≡ error_line (Refusal.Image refusal)) }
+#[tactic(auto, unfolding(crate::specs::Refused::error_line))]
+fn refuse_range<E: Sink>(refusal: &Refusal, key: &[u8], value: u64, err: &mut E)
+    requires { refusal.now ≡ Machine (Range key.now value) }
+    ensures { Tells (error_line refusal.now) (E.faults err.old) (E.faults err.new) (E.written err.old) (E.written err.new) }
 {
-    let mut line = Line::new(alloc, b"wwt: image 0: ")?;
-    image_text(&mut line, refusal)?;
-    line.end()?;
-    Ok(line)
+    let mut buffer = Buffer::new();
+    let number = buffer.format(value).as_bytes();
+    say(refusal, &[b"wwt: machine: ", b"range ", key, b" ", number, b"\n"], err)
 }
 
-fn image_text(line: &mut Line, refusal: ImageRefusal) -> Result<(), NoMemory>
-    ensures { OnOk result (line.new ≡ line.old ++ image_text_of refusal) }
+#[tactic(auto, unfolding(crate::specs::Refused::error_line))]
+fn refuse_image<E: Sink>(refusal: &Refusal, number: u32, why: ImageRefusal, err: &mut E)
+    requires { refusal.now ≡ Image number why }
+    ensures { Tells (error_line refusal.now) (E.faults err.old) (E.faults err.new) (E.written err.old) (E.written err.new) }
 {
-    match refusal {
-        ImageRefusal::TooLong => line.text(b"too long"),
-        ImageRefusal::Outside { address } => line.entry_hex(b"outside ", address),
+    let mut buffer = Buffer::new();
+    let image = buffer.format(number).as_bytes();
+    match why {
+        ImageRefusal::TooLong => {
+            say(refusal, &[b"wwt: image ", image, b": ", b"too long", b"\n"], err)
+        }
+        ImageRefusal::Elf { fault } => {
+            say(refusal, &[b"wwt: image ", image, b": ", file_text(fault), b"\n"], err)
+        }
+        ImageRefusal::Outside { address } => {
+            let digits = eight_digits(address);
+            say(refusal, &[b"wwt: image ", image, b": ", b"outside 0x", &digits, b"\n"], err)
+        }
+        ImageRefusal::Entry { entry } => {
+            let digits = eight_digits(entry);
+            say(refusal, &[b"wwt: image ", image, b": ", b"entry 0x", &digits, b"\n"], err)
+        }
     }
 }
 
-/// Writes the line of a refusal, and answers its status.
-#[tactic(auto, unfolding(crate::specs::Status::error_line))]
-fn say<E: Sink>(said: Refusal, line: &[u8], err: &mut E) -> Status
-    requires { line.now ≡ error_line said }
-    ensures { Tells said result (E.faults err.old) (E.faults err.new) (E.written err.old) (E.written err.new) }
+/// What is wrong with a file that is no executable.
+fn file_text(fault: ImageFault) -> &'static [u8]
+    ensures { result.now ≡ file_text_of fault }
 {
-    let _ = err.write(line);
-    status_of(said)
+    match fault {
+        ImageFault::Short => b"short",
+        ImageFault::Magic => b"magic",
+        ImageFault::Class => b"class",
+        ImageFault::Order => b"order",
+        ImageFault::NotExec => b"type",
+        ImageFault::Machine => b"machine",
+        ImageFault::Entries => b"entries",
+        ImageFault::TableOutside => b"table",
+        ImageFault::Dynamic => b"dynamic",
+        ImageFault::SegmentOutside => b"segment",
+        ImageFault::SizeLess => b"size",
+        ImageFault::NoLoad => b"noload",
+        ImageFault::NoMemory => b"out of memory",
+    }
 }
 
-fn status_of(refusal: Refusal) -> Status
-    ensures { result ≡ status_of_refusal refusal }
+/// A word as eight hexadecimal digits.
+fn eight_digits(word: u32) -> [u8; 8]
+    ensures { result ≡ eight_digits word }
 {
-    match refusal {
-        Refusal::Usage => Status::Usage,
-        Refusal::Read => Status::ReadFault,
-        Refusal::Image { refusal: _ } => Status::BadImage,
-        Refusal::Write => Status::WriteFault,
-        Refusal::Memory => Status::NoMemory,
+    let mut digits = [0u8; 8];
+    hex::encode_to_slice(word.to_be_bytes(), &mut digits).unwrap();
+    digits
+}
+
+/// Writes the line of a refusal, which comes in parts, up to the first part that fails.
+fn say<E: Sink>(refusal: &Refusal, parts: &[&[u8]], err: &mut E)
+    requires { joined (map (λ part. part.now) parts.now) ≡ error_line refusal.now }
+    ensures { Tells (error_line refusal.now) (E.faults err.old) (E.faults err.new) (E.written err.old) (E.written err.new) }
+{
+    for part in parts {
+        match say_part(err, part) {
+            Ok(()) => {}
+            Err(Failed) => return,
+        }
     }
+}
+
+/// Writes a part of a line.
+fn say_part<E: Sink>(err: &mut E, part: &[u8]) -> Result<(), Failed>
+    ensures ok { OnOk result (Grows (E.written err.old) (E.written err.new) part.now) }
+    ensures err { OnErr result (GrowsByPrefix (E.written err.old) (E.written err.new) part.now) }
+    ensures steady { OnOk result (E.faults err.new ≡ E.faults err.old) }
+    ensures failed { OnErr result (Rose (E.faults err.old) (E.faults err.new)) }
+{
+    if part.is_empty() {
+        return Ok(());
+    }
+    err.write(part)
 }

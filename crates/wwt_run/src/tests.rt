@@ -3,7 +3,7 @@ ghost use Rattle.wt_params.specs.Machine.{flat_machine};
 ghost use Rattle.discrete_events.specs.Serial.{serial};
 ghost use Rattle.node.specs.Event.{wind_tunnel};
 ghost use Rattle.wwt_run.specs.Alone.{world_of};
-ghost use Rattle.wwt_run.specs.Case.{output_of_run, status_of_run};
+ghost use Rattle.wwt_run.specs.Jobs.{output_of_run, status_of_run};
 ghost use Rattle.wwt_run.specs.Examples.{print_a, print_a_report, empty_report, endless_jump, after_steps};
 ghost use Rattle.wwt_run.specs.World.{start_flat};
 

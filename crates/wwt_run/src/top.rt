@@ -1,21 +1,22 @@
-ghost use Rattle.std.specs.Prelude.{◌≡◌, ◌≢◌, ℕ, ◌<◌, ◌≤◌, ◌⊎◌, ◌↔◌, List, [], ◌∷◌, length, map, string_bytes, false, IsSome, IfSome, IfOk, IfErr, OnOk, OnErr, IsErrOf};
+ghost use Rattle.std.specs.Prelude.{◌≡◌, ◌≢◌, ℕ, ◌+◌, ◌<◌, ◌≤◌, ◌⊎◌, List, [], Some, Ok, Err, length, map, string_bytes, true, Contains, IsSome, IfOk, IfErr, OnOk, IsErrOf};
 ghost use Rattle.wt_outside.specs.Faults.{Rose, Stood};
 ghost use Rattle.wt_outside.specs.Files.{Files, IsMissing};
 ghost use Rattle.wt_outside.specs.Growth.{Grows, GrowsByPrefix};
-ghost use Rattle.wwt_run.specs.declared.refusal.Refusal.{Refusal};
-ghost use Rattle.wwt_run.specs.Case.{Refused, is_flat_of, case_of, input_name, status_of, output_of, output_of_run};
-ghost use Rattle.wwt_run.specs.Status.{status_of_refusal, error_line};
-ghost use Rattle.wwt_run.specs.Answer.{IsCase, IsEarly, IsRun, IsEarlyStatus, Ran, SaysLine};
+ghost use Rattle.wwt_case.specs.declared.job.Job.{Job};
+ghost use Rattle.wwt_case.specs.Case.{case_of, names_of, is_usage_of};
+ghost use Rattle.wwt_words.specs.Words.{command_of};
+ghost use Rattle.wwt_run.specs.Jobs.{status_of, output_of, output_of_job};
+ghost use Rattle.wwt_run.specs.Answer.{Ended, Ends, IsDone, IsEarly};
 
-use crate::flat::{read_input, run_flat};
-use crate::refusal::Refusal;
+use crate::perform::perform;
 use crate::refuse::refuse;
 use crate::status::Status;
 use std::alloc::Global;
 use wt_outside::{Sink, Store};
+use wwt_case::{Refusal, prepare};
 
-/// Does what the words of the command line say, and answers the status: `flat` runs the flat bytes of standard input
-/// on the flat machine and writes the report. It always returns.
+/// Does what the words of the command line say, and answers the status. `check` prints a machine, `dis` the words of an
+/// image, and `flat` runs the flat bytes of standard input on the flat machine and prints the report. It always returns.
 pub fn wwt_plain<S: Store, K: Sink, E: Sink>(
     alloc: Global,
     words: &[String],
@@ -26,45 +27,44 @@ pub fn wwt_plain<S: Store, K: Sink, E: Sink>(
     // None is for two workers or more, of which there is no command yet.
     ensures answers { IsSome result }
 
-    // The headline: what is written is the report of the serial simulation, and the status is that of its last world.
-    // Of refused words or input nothing is written. No other answer may come, but for want of memory.
+    // The headline: what is written is the output of what the words and the files call for, a report that of the serial
+    // simulation, and the status is its status. No other answer may come, but for want of memory.
     ensures headline { (files : Files) → S.files store.old ≡ Some files
         → Stood (S.faults store.old) (S.faults store.new) → Stood (K.faults out.old) (K.faults out.new)
         → (result ≡ Some Status.NoMemory)
         ⊎ ((result ≡ Some (status_of (case_of (map string_bytes words.now) files)))
         × Grows (K.written out.old) (K.written out.new) (output_of (case_of (map string_bytes words.now) files))) }
 
-    // Where the files aren't told, it is the report of the bytes that were read, whatever they were.
-    ensures run { IfSome result (λ status. IsRun status → Ran (S.files store.old) status (K.written out.old) (K.written out.new)) }
+    // How the call ended, whatever the sinks did, and the one line that tells of it.
+    ensures ended { Ended (map string_bytes words.now) (record {
+      files = S.files store.old;
+      faults_before = S.faults store.old;
+      faults_now = S.faults store.new;
+      reads_before = S.reads store.old;
+      reads_now = S.reads store.new;
+    }) result (E.faults err.old) (E.faults err.new) (E.written err.old) (E.written err.new) }
 
     // Words are refused by themselves, and then nothing is read or written.
-    ensures usage { (result ≡ Some Status.Usage) ↔ (is_flat_of (map string_bytes words.now) ≡ false) }
-    ensures untouched { result ≡ Some Status.Usage → (store.new ≡ store.old) × (out.new ≡ out.old) }
+    ensures usage { result ≡ Some Status.Usage → is_usage_of (command_of (map string_bytes words.now)) ≡ true }
+    ensures untouched { is_usage_of (command_of (map string_bytes words.now)) ≡ true → (store.new ≡ store.old) × (out.new ≡ out.old) }
 
-    // Only the outside makes a fault.
-    ensures read_fault { result ≡ Some Status.ReadFault → Rose (S.faults store.old) (S.faults store.new) ⊎ IsMissing (S.files store.old) input_name }
+    // Each name is read once, in order, and none after a refusal.
+    ensures once { (files : Files) → S.files store.old ≡ Some files → S.reads store.new ≤ S.reads store.old + length (names_of (map string_bytes words.now) files) }
+
+    // Only the outside makes a fault, and it is told, or want of memory is.
+    ensures read_fault { result ≡ Some Status.ReadFault → Rose (S.faults store.old) (S.faults store.new) ⊎ ((name : List ℕ) × IsMissing (S.files store.old) name) }
     ensures write_fault { result ≡ Some Status.WriteFault → Rose (K.faults out.old) (K.faults out.new) }
-
-    // A fault of the outside is told, or want of memory is.
     ensures store_fault { S.faults store.old < S.faults store.new → (result ≡ Some Status.ReadFault) ⊎ (result ≡ Some Status.NoMemory) }
     ensures sink_fault { K.faults out.old < K.faults out.new → (result ≡ Some Status.WriteFault) ⊎ (result ≡ Some Status.NoMemory) }
 
-    // Nothing is written before everything is accepted, and else a first part of a report.
-    ensures nothing { IfSome result (λ status. IsEarlyStatus status → Grows (K.written out.old) (K.written out.new) []) }
-    ensures part { (bytes : List ℕ) × GrowsByPrefix (K.written out.old) (K.written out.new) (output_of_run bytes) }
+    // What is written is a first part of the output of some job, of the told files that of their case.
+    ensures part { (job : Job) × GrowsByPrefix (K.written out.old) (K.written out.new) (output_of_job job) }
     ensures told_part { (files : Files) → S.files store.old ≡ Some files
         → GrowsByPrefix (K.written out.old) (K.written out.new) (output_of (case_of (map string_bytes words.now) files)) }
-
-    // One line tells of a refusal.
-    ensures error_line { IfSome result (λ status. SaysLine status (E.faults err.old) (E.faults err.new) (E.written err.old) (E.written err.new)) }
-    ensures exact_line { (files : Files) (reason : Refusal) → S.files store.old ≡ Some files
-        → Stood (S.faults store.old) (S.faults store.new) → Stood (E.faults err.old) (E.faults err.new)
-        → case_of (map string_bytes words.now) files ≡ Refused reason → result ≡ Some (status_of_refusal reason)
-        → Grows (E.written err.old) (E.written err.new) (error_line reason) }
 {
     match attempt(alloc, words, store, out) {
         Ok(status) => Some(status),
-        Err(refusal) => Some(refuse(alloc, refusal, err)),
+        Err(refusal) => Some(refuse(&refusal, err)),
     }
 }
 
@@ -75,37 +75,27 @@ fn attempt<S: Store, K: Sink>(
     store: &mut S,
     out: &mut K,
 ) -> Result<Status, Refusal>
-    ensures decided { (files : Files) → S.files store.old ≡ Some files
+    ensures of_case { (files : Files) → S.files store.old ≡ Some files
         → Stood (S.faults store.old) (S.faults store.new)
-        → IsCase (case_of (map string_bytes words.now) files) result }
-    ensures ends { IfOk result IsRun }
-    ensures run { IfOk result (λ status. Ran (S.files store.old) status (K.written out.old) (K.written out.new)) }
-    ensures usage { IsErrOf result Refusal.Usage ↔ (is_flat_of (map string_bytes words.now) ≡ false) }
-    ensures untouched { IsErrOf result Refusal.Usage → (store.new ≡ store.old) × (out.new ≡ out.old) }
-    ensures read_fault { IsErrOf result Refusal.Read → Rose (S.faults store.old) (S.faults store.new) ⊎ IsMissing (S.files store.old) input_name }
+        → Ends (case_of (map string_bytes words.now) files) result }
+    ensures named { (files : Files) (name : List ℕ) → S.files store.old ≡ Some files → IsErrOf result (Refusal.Read name)
+        → Contains (names_of (map string_bytes words.now) files) name }
+    ensures whole { (files : Files) → S.files store.old ≡ Some files → OnOk result (Grows (K.written out.old) (K.written out.new) (output_of (case_of (map string_bytes words.now) files))) }
+    ensures usage { IsErrOf result Refusal.Usage → is_usage_of (command_of (map string_bytes words.now)) ≡ true }
+    ensures untouched { is_usage_of (command_of (map string_bytes words.now)) ≡ true → (store.new ≡ store.old) × (out.new ≡ out.old) }
+    ensures once { (files : Files) → S.files store.old ≡ Some files → S.reads store.new ≤ S.reads store.old + length (names_of (map string_bytes words.now) files) }
+    ensures unread { (name : List ℕ) → IsErrOf result (Refusal.Read name) → Rose (S.faults store.old) (S.faults store.new) ⊎ IsMissing (S.files store.old) name }
+    ensures store_steady { ((name : List ℕ) → result ≢ Err (Refusal.Read name)) → S.faults store.new ≡ S.faults store.old }
     ensures write_fault { IsErrOf result Refusal.Write → Rose (K.faults out.old) (K.faults out.new) }
-    ensures store_steady { result ≢ Err Refusal.Read → S.faults store.new ≡ S.faults store.old }
     ensures out_steady { result ≢ Err Refusal.Write → K.faults out.new ≡ K.faults out.old }
-    ensures nothing { IfErr result (λ refusal. IsEarly refusal → Grows (K.written out.old) (K.written out.new) []) }
-    ensures part { (bytes : List ℕ) × GrowsByPrefix (K.written out.old) (K.written out.new) (output_of_run bytes) }
+    ensures done { IfOk result IsDone }
+    ensures early { IsEarly result → Grows (K.written out.old) (K.written out.new) [] }
+    ensures part { (job : Job) × GrowsByPrefix (K.written out.old) (K.written out.new) (output_of_job job) }
     ensures told_part { (files : Files) → S.files store.old ≡ Some files
         → GrowsByPrefix (K.written out.old) (K.written out.new) (output_of (case_of (map string_bytes words.now) files)) }
 {
-    if !is_flat(words) {
-        return Err(Refusal::Usage);
-    }
-    match read_input(store) {
-        Ok(input) => run_flat(alloc, &input, out),
+    match prepare(alloc, words, store) {
+        Ok(job) => perform(alloc, &job, out),
         Err(refusal) => Err(refusal),
-    }
-}
-
-/// Whether the words are the one word `flat`.
-fn is_flat(words: &[String]) -> bool
-    ensures { result ≡ is_flat_of (map string_bytes words.now) }
-{
-    match words {
-        [word] => word.as_str() == "flat",
-        _ => false,
     }
 }

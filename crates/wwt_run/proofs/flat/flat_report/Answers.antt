@@ -21,4 +21,4 @@ returns-clause-status c =
       head_is = c.in_ok-head.ensures.head;
       nodes_are = c.in_ok-head.ensures.nodes;
     } in
-    status_is c.args.bytes.now c.flat-machine.result c.in_ok-node.node.state c.run_alone.new.node.state c.in_ok-head.head run c.status_after.result c.status_after.ensures.status
+    status_is c.args.bytes.now c.flat-machine.result c.in_ok-node.node.state c.run_alone.new.node.state c.in_ok-head.head run c.status_after.result c.status_after.ensures

@@ -1,13 +1,11 @@
-use Rattle.std.proofs.Common.{inl, inr}
+use Rattle.std.proofs.Common.{◌≡◌, ℕ, List, ap, ap₂, sym, ◌∙◌}
+use Rattle.wwt_case.specs.declared.refusal.Refusal.TheVariants.{Image}
+use Rattle.wwt_run.specs.Refused.{error_line}
+use Rattle.wwt_run.proofs.RefusedLemmas.{outside_line}
 use Rattle.wwt_run.proofs.refuse.refuse_image.Goals as goal
 
-pub returns-in-Err : goal.returns-in-Err
-returns-in-Err g c =
-    let told = c.out_of_memory.ensures in
-    record {
-      said = told.said;
-      may_say = elim told.may_say [ inl is ↦ inr (tt, is) | inr other ↦ absurd other.0 ];
-      status_is = told.status_is;
-      whole = told.whole;
-      part = told.part;
-    }
+pub say-requires-in-Outside : goal.say-requires-in-Outside
+say-requires-in-Outside g c =
+    outside_line c.args.refusal.now c.args.number c.in-Outside.address c.as_bytes-image.result.now c.eight_digits-digits.result
+        (c.requires ∙ ap (Image c.args.number) c.in-Outside.is)
+        (c.as_bytes-image.ensures.value ∙ c.format.ensures.text) c.eight_digits-digits.ensures

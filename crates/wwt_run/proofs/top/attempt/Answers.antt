@@ -1,0 +1,16 @@
+use Rattle.std.proofs.Common.{[], false, true, refl, sym, ◌∙◌}
+use Rattle.std.proofs.lemmas.Bool.{false≢true}
+use Rattle.wt_outside.proofs.GrowthLemmas.{prefix_nothing}
+use Rattle.wwt_case.specs.declared.job.Job.TheVariants.{Dis}
+use Rattle.wwt_run.proofs.AnswerLemmas.{end_is_done}
+use Rattle.wwt_run.proofs.top.attempt.Goals as goal
+
+pub returns-in-Ok-clause-untouched : goal.returns-in-Ok-clause-untouched
+returns-in-Ok-clause-untouched g c = λ usage. absurd (false≢true (sym c.in-Ok.ensures.accepted ∙ usage))
+
+-- nothing is the first part of any output
+pub returns-in-Err-clause-part : goal.returns-in-Err-clause-part
+returns-in-Err-clause-part g c = (Dis (record { entry = 0; segments = [] }), prefix_nothing refl)
+
+pub returns-in-Ok-clause-done : goal.returns-in-Ok-clause-done
+returns-in-Ok-clause-done g c = end_is_done c.in-Ok.job c.perform.result c.perform.ensures.status
