@@ -1,0 +1,5 @@
+pub mod PlaceLaws
+pub mod LineLaws
+pub mod SetLaws
+pub mod CachedLaws
+pub mod KeptLaws

@@ -1,0 +1,14 @@
+use Rattle.std.proofs.Common.{◌≡◌, ℕ, ◌≤◌, List, [], length, replicate, refl, ap, sym, ◌∙◌, subst, arith}
+use Rattle.block_tags.specs.declared.tag.Tag.TheVariants.{Invalid}
+use Rattle.target_cache.specs.Cached.{cached, empty_cache}
+use Rattle.target_cache.proofs.KeptLaws.{kept_empty, empty_is}
+use Rattle.target_cache.proofs.cache.Cache.new.Goals as goal
+
+pub invariant_of-result : goal.invariant_of-result
+invariant_of-result c =
+    rw (c.in_ok-tags.ensures {u = tt}, c.in_ok-sets.ensures {u = tt}, c.blocks-2.ensures.value, c.sets.ensures.value)
+    (kept_empty c.args.machine.now c.ways.result (omega (arith, c.sets.ensures.range.at_least, c.sets.ensures.value)) (omega (arith, c.ways.ensures.value)))
+
+pub returns-clause-empty : goal.returns-clause-empty
+returns-clause-empty c =
+    rw (c.in_ok-sets.ensures {u = tt}, c.sets.ensures.value) (empty_is c.args.machine.now c.ways.result)
