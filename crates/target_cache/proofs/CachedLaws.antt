@@ -1,14 +1,14 @@
 -- The laws of a cache as a whole: what a write, a drop and an install leave of the lines and tags of all blocks.
-use Rattle.std.proofs.Common.{◌≡◌, ◌≢◌, ℕ, zero, suc, ◌+◌, ◌%◌, ◌<◌, ◌≤◌, Bool, true, false, not, cond, eqb, List, [], ◌∷◌, ◌++◌, length, drop, map, filter, get_or, set, Option, Some, None, refl, ap, sym, ◌∙◌, subst, inl, inr, arith, length-append}
-use Rattle.std.specs.List.{find, All}
-use Rattle.std.proofs.lemmas.Bool.{cases_Bool, cases_eq, cases_lt}
-use Rattle.std.proofs.lemmas.List.{length-set, length-map, get_or-set_same, get_or-set_other, get_or-map, map-set, set-set, set-get_or, get_or-replicate, length-replicate}
+use Rattle.std.proofs.Common.{◌≡◌, ◌≢◌, ℕ, ◌<◌, List, [], ◌∷◌, ◌++◌, length, get_or, set, Some, None, refl, ap, sym, ◌∙◌, subst, inl, inr, arith}
+use Rattle.std.specs.List.{find}
+use Rattle.std.proofs.lemmas.Bool.{cases_eq}
+use Rattle.std.proofs.lemmas.List.{length-set, length-map, get_or-set_same, get_or-set_other, get_or-map, map-set}
 use Rattle.wt_params.specs.declared.parts.MachineParts.{MachineParts}
 use Rattle.block_tags.specs.declared.tag.Tag.{Tag}
-use Rattle.block_tags.specs.declared.tag.Tag.TheVariants.{Invalid, ReadOnly, Writable}
+use Rattle.block_tags.specs.declared.tag.Tag.TheVariants.{Invalid}
 use Rattle.target_cache.specs.declared.line.Line.{Line}
-use Rattle.target_cache.specs.Lines.{LinesInRoom, AreDistinct, holds, tag_by, with_written, without, replaced_in, with_installed}
-use Rattle.target_cache.specs.Cached.{Cached, IsCached, IsKept, AreTags, AreLines, LineFits, cached, set_of, lines_of, with_lines, line_of, tag_of, empty_cache}
+use Rattle.target_cache.specs.Lines.{LinesInRoom, holds, tag_by, with_written, without}
+use Rattle.target_cache.specs.Cached.{Cached, IsCached, AreTags, AreLines, cached, set_of, lines_of, with_lines, line_of}
 use Rattle.target_cache.proofs.LineLaws.{dropped_is_gone, drop_keeps_others, write_keeps_tags, added_is_found, add_keeps_others}
 
 -- the set of a block is there
@@ -32,9 +32,10 @@ pub still_cached : (cache : Cached) (block : ℕ) (lines : List Line) → HasSet
 still_cached cache block lines has is are = record {
   count = length-set cache.sets (set_of cache.machine block) lines ∙ is.count;
   lines = λ number below. elim (cases_eq number (set_of cache.machine block)) [
-      inl same ↦ subst (λ (at : ℕ). AreLines cache.machine at (get_or (set cache.sets (set_of cache.machine block) lines) at [])) (sym same)
+    | inl same ↦ subst (λ (at : ℕ). AreLines cache.machine at (get_or (set cache.sets (set_of cache.machine block) lines) at [])) (sym same)
         (rw (get_or-set_same cache.sets (set_of cache.machine block) lines [] has.there) are)
-    | inr apart ↦ rw (get_or-set_other cache.sets (set_of cache.machine block) number lines [] apart) (is.lines number below) ];
+    | inr apart ↦ rw (get_or-set_other cache.sets (set_of cache.machine block) number lines [] apart) (is.lines number below)
+  ];
 }
 
 -- the tags of a cache whose lines of one set are others
@@ -46,9 +47,10 @@ unfolding line_of
 retagged cache block lines tags new has are count here else_where = record {
   count = count ∙ are.count;
   each = λ other exists. elim (cases_eq (set_of cache.machine other) (set_of cache.machine block)) [
-      inl same ↦ here other exists same ∙ ap (λ (held : List Line). tag_by (find (holds other) held)) (sym (same_set cache block other lines has same))
+    | inl same ↦ here other exists same ∙ ap (λ (held : List Line). tag_by (find (holds other) held)) (sym (same_set cache block other lines has same))
     | inr apart ↦ else_where other (λ (e : other ≡ block). apart (ap (λ (b : ℕ). set_of cache.machine b) e)) apart ∙ are.each other exists
-      ∙ ap (λ (held : List Line). tag_by (find (holds other) held)) (sym (other_set cache block other lines apart)) ];
+        ∙ ap (λ (held : List Line). tag_by (find (holds other) held)) (sym (other_set cache block other lines apart))
+  ];
 }
 
 -- in one set, the tags are those of its lines
@@ -70,10 +72,11 @@ pub dropped_tags : (cache : Cached) (block : ℕ) (tags : List Tag) → HasSet c
 dropped_tags cache block tags has exists are =
     retagged cache block (without block (lines_of cache block)) tags (set tags block Invalid) has are (length-set tags block Invalid)
     (λ other other_exists same. elim (cases_eq other block) [
-        inl is ↦ subst (λ (b : ℕ). get_or (set tags block Invalid) b Invalid ≡ tag_by (find (holds b) (without block (lines_of cache block)))) (sym is)
+      | inl is ↦ subst (λ (b : ℕ). get_or (set tags block Invalid) b Invalid ≡ tag_by (find (holds b) (without block (lines_of cache block)))) (sym is)
           (get_or-set_same tags block Invalid Invalid (omega (arith, are.count)) ∙ ap tag_by (sym (dropped_is_gone block (lines_of cache block))))
       | inr apart ↦ get_or-set_other tags block other Invalid Invalid apart ∙ tag_here cache block other tags are other_exists same
-          ∙ ap tag_by (sym (drop_keeps_others block other (lines_of cache block) apart)) ])
+          ∙ ap tag_by (sym (drop_keeps_others block other (lines_of cache block) apart))
+    ])
     (λ other apart set_apart. get_or-set_other tags block other Invalid Invalid apart)
 
 pub added_tags : (cache : Cached) (line : Line) (tags : List Tag) → HasSet cache line.block → line.block < cache.machine.blocks →
@@ -85,10 +88,11 @@ added_tags cache line tags has exists none are =
     let tag = tag_by (Some line) in
     retagged cache block (lines ++ line ∷ []) tags (set tags block tag) has are (length-set tags block tag)
     (λ other other_exists same. elim (cases_eq other block) [
-        inl is ↦ subst (λ (b : ℕ). get_or (set tags block tag) b Invalid ≡ tag_by (find (holds b) (lines ++ line ∷ []))) (sym is)
+      | inl is ↦ subst (λ (b : ℕ). get_or (set tags block tag) b Invalid ≡ tag_by (find (holds b) (lines ++ line ∷ []))) (sym is)
           (get_or-set_same tags block tag Invalid (omega (arith, are.count)) ∙ ap tag_by (sym (added_is_found line lines none)))
       | inr apart ↦ get_or-set_other tags block other tag Invalid apart ∙ tag_here cache block other tags are other_exists same
-          ∙ ap tag_by (sym (add_keeps_others other line lines apart)) ])
+          ∙ ap tag_by (sym (add_keeps_others other line lines apart))
+    ])
     (λ other apart set_apart. get_or-set_other tags block other tag Invalid apart)
 
 -- what the code keeps, with the lines of a set put back

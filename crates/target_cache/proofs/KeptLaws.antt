@@ -1,15 +1,15 @@
 -- What the code keeps stays sound through a write, a drop and an install, and stands for the cache after it.
-use Rattle.std.proofs.Common.{◌≡◌, ◌≢◌, ℕ, zero, suc, ◌+◌, ◌%◌, ◌<◌, ◌≤◌, Bool, true, false, cond, List, [], ◌∷◌, ◌++◌, length, drop, map, get_or, set, replicate, Option, Some, None, refl, ap, sym, ◌∙◌, subst, inl, inr, arith, mod-lt}
-use Rattle.std.specs.List.{find, All, slice_get}
-use Rattle.std.proofs.lemmas.Bool.{cases_Bool, cases_lt}
-use Rattle.std.proofs.lemmas.List.{length-set, length-map, get_or-set_same, get_or-map, set-set, set-get_or, get_or-replicate, length-replicate}
+use Rattle.std.proofs.Common.{◌≡◌, ◌≢◌, ℕ, zero, suc, ◌+◌, ◌%◌, ◌<◌, ◌≤◌, Bool, true, false, cond, List, [], ◌∷◌, ◌++◌, length, map, get_or, set, replicate, Option, Some, None, refl, ap, sym, ◌∙◌, subst, inl, inr, arith, mod-lt}
+use Rattle.std.specs.List.{find}
+use Rattle.std.proofs.lemmas.Bool.{cases_lt}
+use Rattle.std.proofs.lemmas.List.{length-set, length-map, get_or-map, set-set, set-get_or, get_or-replicate, length-replicate}
 use Rattle.std.proofs.lemmas.List.Elements.{All-set, All-replicate}
 use Rattle.wt_params.specs.declared.parts.MachineParts.{MachineParts}
 use Rattle.block_tags.specs.declared.tag.Tag.{Tag}
 use Rattle.block_tags.specs.declared.tag.Tag.TheVariants.{Invalid, ReadOnly, Writable}
 use Rattle.target_cache.specs.declared.line.Line.{Line}
-use Rattle.target_cache.specs.Lines.{LinesInRoom, AreDistinct, holds, tag_by, with_written, without, replaced_in, with_installed}
-use Rattle.target_cache.specs.Cached.{Cached, IsCached, IsKept, AreTags, AreLines, LineFits, cached, set_of, lines_of, with_lines, line_of, tag_of, write_of, written_by, drop_of, replaced_of, install_of, empty_cache}
+use Rattle.target_cache.specs.Lines.{LinesInRoom, holds, tag_by, with_written, without, replaced_in, with_installed}
+use Rattle.target_cache.specs.Cached.{Cached, IsCached, IsKept, AreTags, AreLines, LineFits, cached, set_of, lines_of, with_lines, line_of, tag_of, write_of, written_by, drop_of, install_of, empty_cache}
 use Rattle.target_cache.proofs.PlaceLaws.{all_kept, none_passes}
 use Rattle.target_cache.proofs.LineLaws.{free_way_replaces, free_way_takes, full_set_replaces, full_set_takes, first_out}
 use Rattle.target_cache.proofs.SetLaws.{lines-without, lines-written, lines-installed, lines-none, absent_rest}
@@ -70,7 +70,7 @@ kept_put machine tags after sets block place held new r room are tagged =
       room = All-set (λ (s : LinesInRoom). machine.ways ≤ s.room) sets place new (let h = held_room machine tags sets block place held r in omega arith) r.kept.room;
       tagged = subst (λ (c : Cached). AreTags c after) (sym is) tagged;
       sound = subst (λ (c : Cached). IsCached c) (sym is)
-        (still_cached (cached machine sets) block new.lines (found_set machine tags sets block place held r) r.kept.sound are);
+          (still_cached (cached machine sets) block new.lines (found_set machine tags sets block place held r) r.kept.sound are);
     }
 
 -- a write
@@ -81,8 +81,8 @@ kept_written machine tags sets block place held new offset width value r inside 
     kept_put machine tags tags sets block place held new r room
     (rw lines (lines-written machine (set_of machine block) block offset width value held.lines inside (held_are machine tags sets block place held r)))
     (subst (λ (l : List Line). AreTags (with_lines block l (cached machine sets)) tags)
-      (ap (λ (l : List Line). with_written block offset width value l) (sym (held_lines machine tags sets block place held r)) ∙ sym lines)
-      (written_tags (cached machine sets) block offset width value tags (found_set machine tags sets block place held r) r.kept.tagged))
+    (ap (λ (l : List Line). with_written block offset width value l) (sym (held_lines machine tags sets block place held r)) ∙ sym lines)
+    (written_tags (cached machine sets) block offset width value tags (found_set machine tags sets block place held r) r.kept.tagged))
 
 pub put_written : (machine : MachineParts) (tags : List Tag) (sets : List LinesInRoom) (block place : ℕ) (held new : LinesInRoom) (offset width value : ℕ) →
     Reached machine tags sets block place held → new.lines ≡ with_written block offset width value held.lines →
@@ -110,8 +110,8 @@ kept_dropped machine tags sets block place held new r exists room lines =
     kept_put machine tags (set tags block Invalid) sets block place held new r room
     (rw lines (lines-without machine (set_of machine block) block held.lines (held_are machine tags sets block place held r)))
     (subst (λ (l : List Line). AreTags (with_lines block l (cached machine sets)) (set tags block Invalid))
-      (ap (λ (l : List Line). without block l) (sym (held_lines machine tags sets block place held r)) ∙ sym lines)
-      (dropped_tags (cached machine sets) block tags (found_set machine tags sets block place held r) exists r.kept.tagged))
+    (ap (λ (l : List Line). without block l) (sym (held_lines machine tags sets block place held r)) ∙ sym lines)
+    (dropped_tags (cached machine sets) block tags (found_set machine tags sets block place held r) exists r.kept.tagged))
 
 pub put_dropped : (machine : MachineParts) (tags : List Tag) (sets : List LinesInRoom) (block place : ℕ) (held new : LinesInRoom) →
     Reached machine tags sets block place held → new.lines ≡ without block held.lines → cached machine (set sets place new) ≡ drop_of block (cached machine sets)
@@ -136,7 +136,7 @@ not_dropped cache block tag =
     let none : find (holds block) (lines_of cache block) ≡ None = invalid_is_none (find (holds block) (lines_of cache block)) tag in
     let same : without block (lines_of cache block) ≡ lines_of cache block = all_kept (holds block) (lines_of cache block) (none_passes (holds block) (lines_of cache block) none) in
     sym (ap (λ (l : List Line). with_lines block l cache) same
-      ∙ ap (λ (s : List (List Line)). let c : Cached = record { machine = cache.machine; sets = s } in c) (set-get_or cache.sets (set_of cache.machine block) []))
+    ∙ ap (λ (s : List (List Line)). let c : Cached = record { machine = cache.machine; sets = s } in c) (set-get_or cache.sets (set_of cache.machine block) []))
 
 -- an install
 unfoldable pub untagged : Option Line → List Tag → List Tag
@@ -151,7 +151,7 @@ free_tags machine tags sets line place held r exists none =
     let same = held_lines machine tags sets line.block place held r in
     subst (λ (l : List Line). AreTags (with_lines line.block (l ++ line ∷ []) (cached machine sets)) (set tags line.block (tag_by (Some line)))) (sym same)
     (added_tags (cached machine sets) line tags (found_set machine tags sets line.block place held r) exists
-      (subst (λ (l : List Line). find (holds line.block) l ≡ None) same none) r.kept.tagged)
+    (subst (λ (l : List Line). find (holds line.block) l ≡ None) same none) r.kept.tagged)
 
 -- the tags after the line installed first was taken out
 without_first : (machine : MachineParts) (tags : List Tag) (sets : List LinesInRoom) (block place : ℕ) (held : LinesInRoom) (first : Line) (rest : List Line) →
@@ -162,11 +162,11 @@ without_first machine tags sets block place held first rest r is =
     let here : set_of machine first.block ≡ set_of machine block = fits.here in
     let there : HasSet (cached machine sets) first.block = has_set machine sets first.block (let e = r.at in let h = r.there in omega arith) in
     let lines : lines_of (cached machine sets) first.block ≡ first ∷ rest =
-      ap (λ (i : ℕ). get_or (map (λ (s : LinesInRoom). s.lines) sets) i []) here ∙ sym (held_lines machine tags sets block place held r) ∙ is in
+    ap (λ (i : ℕ). get_or (map (λ (s : LinesInRoom). s.lines) sets) i []) here ∙ sym (held_lines machine tags sets block place held r) ∙ is in
     subst (λ (i : ℕ). AreTags (record { machine = machine; sets = set (map (λ (s : LinesInRoom). s.lines) sets) i rest }) (set tags first.block Invalid)) here
     (subst (λ (l : List Line). AreTags (with_lines first.block l (cached machine sets)) (set tags first.block Invalid))
-      (ap (λ (l : List Line). without first.block l) lines ∙ first_out first rest are.distinct)
-      (dropped_tags (cached machine sets) first.block tags there fits.exists r.kept.tagged))
+    (ap (λ (l : List Line). without first.block l) lines ∙ first_out first rest are.distinct)
+    (dropped_tags (cached machine sets) first.block tags there fits.exists r.kept.tagged))
 
 full_tags : (machine : MachineParts) (tags : List Tag) (sets : List LinesInRoom) (line : Line) (place : ℕ) (held : LinesInRoom) (first : Line) (rest : List Line) →
     Reached machine tags sets line.block place held → line.block < machine.blocks → held.lines ≡ first ∷ rest → find (holds line.block) (first ∷ rest) ≡ None →
@@ -175,31 +175,32 @@ full_tags machine tags sets line place held first rest r exists is none =
     let less : Cached = with_lines line.block rest (cached machine sets) in
     let has = found_set machine tags sets line.block place held r in
     let has_less : HasSet less line.block =
-      record { there = omega (arith, has.there, length-set (map (λ (s : LinesInRoom). s.lines) sets) (set_of machine line.block) rest) } in
+    record { there = omega (arith, has.there, length-set (map (λ (s : LinesInRoom). s.lines) sets) (set_of machine line.block) rest) } in
     let left : lines_of less line.block ≡ rest = same_set (cached machine sets) line.block line.block rest has refl in
     let added = added_tags less line (set tags first.block Invalid) has_less exists
-      (subst (λ (l : List Line). find (holds line.block) l ≡ None) (sym left) (absent_rest line.block first rest none))
-      (without_first machine tags sets line.block place held first rest r is) in
+    (subst (λ (l : List Line). find (holds line.block) l ≡ None) (sym left) (absent_rest line.block first rest none))
+    (without_first machine tags sets line.block place held first rest r is) in
     subst (λ (l : List (List Line)). AreTags (record { machine = machine; sets = l }) (set (set tags first.block Invalid) line.block (tag_by (Some line))))
-      (set-set (map (λ (s : LinesInRoom). s.lines) sets) (set_of machine line.block) rest (rest ++ line ∷ []))
+    (set-set (map (λ (s : LinesInRoom). s.lines) sets) (set_of machine line.block) rest (rest ++ line ∷ []))
     (subst (λ (l : List Line). AreTags (with_lines line.block (l ++ line ∷ []) less) (set (set tags first.block Invalid) line.block (tag_by (Some line)))) left added)
 
 -- the tags after an install
 installed_tags : (machine : MachineParts) (tags : List Tag) (sets : List LinesInRoom) (line : Line) (place : ℕ) (held : LinesInRoom) (lines : List Line) →
     Reached machine tags sets line.block place held → line.block < machine.blocks → 1 ≤ machine.ways → held.lines ≡ lines → find (holds line.block) lines ≡ None →
     AreTags (with_lines line.block (with_installed machine.ways line lines) (cached machine sets))
-      (set (untagged (replaced_in machine.ways lines) tags) line.block (tag_by (Some line)))
+    (set (untagged (replaced_in machine.ways lines) tags) line.block (tag_by (Some line)))
 unfolding untagged
 installed_tags machine tags sets line place held [] r exists some is none =
     rw (free_way_takes machine.ways line [] (omega arith), free_way_replaces machine.ways [] (omega arith))
     (subst (λ (l : List Line). AreTags (with_lines line.block (l ++ line ∷ []) (cached machine sets)) (set tags line.block (tag_by (Some line)))) is
-      (free_tags machine tags sets line place held r exists (subst (λ (l : List Line). find (holds line.block) l ≡ None) (sym is) none)))
+    (free_tags machine tags sets line place held r exists (subst (λ (l : List Line). find (holds line.block) l ≡ None) (sym is) none)))
 installed_tags machine tags sets line place held (first ∷ rest) r exists some is none = elim (cases_lt (length (first ∷ rest)) machine.ways) [
-    inl free ↦ rw (free_way_takes machine.ways line (first ∷ rest) free, free_way_replaces machine.ways (first ∷ rest) free)
+  | inl free ↦ rw (free_way_takes machine.ways line (first ∷ rest) free, free_way_replaces machine.ways (first ∷ rest) free)
       (subst (λ (l : List Line). AreTags (with_lines line.block (l ++ line ∷ []) (cached machine sets)) (set tags line.block (tag_by (Some line)))) is
-        (free_tags machine tags sets line place held r exists (subst (λ (l : List Line). find (holds line.block) l ≡ None) (sym is) none)))
+      (free_tags machine tags sets line place held r exists (subst (λ (l : List Line). find (holds line.block) l ≡ None) (sym is) none)))
   | inr full ↦ rw (full_set_takes machine.ways line (first ∷ rest) full, full_set_replaces machine.ways (first ∷ rest) full)
-      (full_tags machine tags sets line place held first rest r exists is none) ]
+      (full_tags machine tags sets line place held first rest r exists is none)
+]
 
 pub kept_installed : (machine : MachineParts) (tags : List Tag) (sets : List LinesInRoom) (line : Line) (place : ℕ) (held new : LinesInRoom) →
     Reached machine tags sets line.block place held → line.block < machine.blocks → length line.bytes ≡ machine.block_bytes → 1 ≤ machine.ways →
@@ -208,9 +209,9 @@ pub kept_installed : (machine : MachineParts) (tags : List Tag) (sets : List Lin
 kept_installed machine tags sets line place held new r exists size some none room lines =
     kept_put machine tags (set (untagged (replaced_in machine.ways held.lines) tags) line.block (tag_by (Some line))) sets line.block place held new r room
     (rw lines (lines-installed machine (set_of machine line.block) line held.lines (record { exists = exists; here = refl; size = size }) some none
-      (held_are machine tags sets line.block place held r)))
+    (held_are machine tags sets line.block place held r)))
     (subst (λ (l : List Line). AreTags (with_lines line.block l (cached machine sets)) (set (untagged (replaced_in machine.ways held.lines) tags) line.block (tag_by (Some line)))) (sym lines)
-      (installed_tags machine tags sets line place held held.lines r exists some refl none))
+    (installed_tags machine tags sets line place held held.lines r exists some refl none))
 
 pub put_installed : (machine : MachineParts) (tags : List Tag) (sets : List LinesInRoom) (line : Line) (place : ℕ) (held new : LinesInRoom) →
     Reached machine tags sets line.block place held → new.lines ≡ with_installed machine.ways line held.lines →
@@ -226,12 +227,13 @@ pub replaced_exists : (machine : MachineParts) (number : ℕ) (lines : List Line
 replaced_exists machine number [] old are some is =
     let e : None ≡ Some old = sym (free_way_replaces machine.ways [] (omega arith)) ∙ is in absurd cc
 replaced_exists machine number (first ∷ rest) old are some is = elim (cases_lt (length (first ∷ rest)) machine.ways) [
-    inl free ↦ let e : None ≡ Some old = sym (free_way_replaces machine.ways (first ∷ rest) free) ∙ is in absurd cc
+  | inl free ↦ let e : None ≡ Some old = sym (free_way_replaces machine.ways (first ∷ rest) free) ∙ is in absurd cc
   | inr full ↦
-    let e : Some first ≡ Some old = sym (full_set_replaces machine.ways (first ∷ rest) full) ∙ is in
-    let same : first ≡ old = cc in
-    let fits : LineFits machine number first = are.fit 0 first (omega arith) in
-    subst (λ (l : Line). l.block < machine.blocks) same fits.exists ]
+      let e : Some first ≡ Some old = sym (full_set_replaces machine.ways (first ∷ rest) full) ∙ is in
+      let same : first ≡ old = cc in
+      let fits : LineFits machine number first = are.fit 0 first (omega arith) in
+      subst (λ (l : Line). l.block < machine.blocks) same fits.exists
+]
 
 -- at the start
 pub kept_empty : (machine : MachineParts) (room : ℕ) → 1 ≤ machine.sets → machine.ways ≤ room →
@@ -240,14 +242,14 @@ unfolding line_of
 kept_empty machine room some fits =
     let none : LinesInRoom = record { lines = []; room = room } in
     let lines : (number : ℕ) → number < machine.sets → get_or (map (λ (s : LinesInRoom). s.lines) (replicate machine.sets none)) number [] ≡ [] =
-      λ number below. get_or-map (λ (s : LinesInRoom). s.lines) (replicate machine.sets none) number none [] (omega (arith, length-replicate machine.sets none))
-        ∙ ap (λ (s : LinesInRoom). s.lines) (get_or-replicate machine.sets number none none below) in
+    λ number below. get_or-map (λ (s : LinesInRoom). s.lines) (replicate machine.sets none) number none [] (omega (arith, length-replicate machine.sets none))
+    ∙ ap (λ (s : LinesInRoom). s.lines) (get_or-replicate machine.sets number none none below) in
     record {
       room = All-replicate (λ (s : LinesInRoom). machine.ways ≤ s.room) machine.sets none fits;
       tagged = record {
         count = length-replicate machine.blocks Invalid;
         each = λ block exists. get_or-replicate machine.blocks block Invalid Invalid exists
-          ∙ ap (λ (l : List Line). tag_by (find (holds block) l)) (sym (lines (block % machine.sets) (mod-lt block some)));
+            ∙ ap (λ (l : List Line). tag_by (find (holds block) l)) (sym (lines (block % machine.sets) (mod-lt block some)));
       };
       sound = record {
         count = length-map (replicate machine.sets none) (λ (s : LinesInRoom). s.lines) ∙ length-replicate machine.sets none;

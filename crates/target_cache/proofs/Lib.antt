@@ -3,3 +3,4 @@ pub mod LineLaws
 pub mod SetLaws
 pub mod CachedLaws
 pub mod KeptLaws
+pub mod CacheLaws

@@ -1,13 +1,12 @@
 -- What drops, writes and installs leave in the lines of a set.
-use Rattle.std.proofs.Common.{◌≡◌, ℕ, zero, suc, ◌+◌, ◌<◌, ◌≤◌, ◌≢◌, Bool, true, false, not, cond, eqb, List, [], ◌∷◌, ◌++◌, length, drop, map, filter, Option, Some, None, refl, ap, sym, ◌∙◌, subst, inl, inr, arith, length-append, length-drop, ltb}
-use Rattle.std.specs.List.{find, slice_get, All}
+use Rattle.std.proofs.Common.{◌≡◌, ℕ, suc, ◌<◌, ◌≤◌, ◌≢◌, true, false, eqb, List, [], ◌∷◌, ◌++◌, length, drop, filter, Option, Some, None, refl, sym, ◌∙◌, inl, inr, arith}
+use Rattle.std.specs.List.{find, slice_get}
 use Rattle.std.specs.Option.{option_or}
-use Rattle.std.proofs.lemmas.Bool.{cases_Bool, cond-true, cond-false, eqb-true, lt-ltb, le-ltb, eq-eqb, ne_eqb}
+use Rattle.std.proofs.lemmas.Bool.{cases_Bool, eqb-true, lt-ltb, le-ltb, eq-eqb, ne_eqb}
 use Rattle.std.proofs.lemmas.List.Folds.{find-append}
-use Rattle.std.proofs.lemmas.List.Elements.{filter-append}
 use Rattle.target_cache.proofs.PlaceLaws.{all_kept}
 use Rattle.target_cache.specs.declared.line.Line.{Line}
-use Rattle.target_cache.specs.Lines.{AreDistinct, holds, tag_by, written_line, with_written, without, replaced_in, with_installed}
+use Rattle.target_cache.specs.Lines.{AreDistinct, holds, tag_by, with_written, without, replaced_in, with_installed}
 
 -- where a way is free, no line is replaced
 pub free_way_replaces : (ways : ℕ) (lines : List Line) → length lines < ways → replaced_in ways lines ≡ None
@@ -42,8 +41,9 @@ other_step : (block other : ℕ) (line : Line) (rest : List Line) → other ≢ 
     find (holds other) (without block (line ∷ rest)) ≡ find (holds other) (line ∷ rest)
 unfolding without
 other_step block other line rest apart same = elim (cases_Bool (holds block line)) [
-    inl is ↦ let is_not : eqb line.block other ≡ false = ne_eqb line.block other (λ e. apart (sym e ∙ eqb-true line.block block is)) in rw (is, is_not) same
-  | inr is ↦ elim (cases_Bool (holds other line)) [ inl at ↦ rw (is, at) | inr at ↦ rw (is, at) same ] ]
+  | inl is ↦ let is_not : eqb line.block other ≡ false = ne_eqb line.block other (λ e. apart (sym e ∙ eqb-true line.block block is)) in rw (is, is_not) same
+  | inr is ↦ elim (cases_Bool (holds other line)) [ inl at ↦ rw (is, at) | inr at ↦ rw (is, at) same ]
+]
 
 pub drop_keeps_others : (block other : ℕ) (lines : List Line) → other ≢ block → find (holds other) (without block lines) ≡ find (holds other) lines
 unfolding without
@@ -56,8 +56,9 @@ tag_step : (block offset width value other : ℕ) (line : Line) (rest : List Lin
     tag_by (find (holds other) (with_written block offset width value (line ∷ rest))) ≡ tag_by (find (holds other) (line ∷ rest))
 unfolding with_written
 tag_step block offset width value other line rest same = elim (cases_Bool (holds block line)) [
-    inl is ↦ elim (cases_Bool (holds other line)) [ inl at ↦ rw (is, at) | inr at ↦ rw (is, at) same ]
-  | inr is ↦ elim (cases_Bool (holds other line)) [ inl at ↦ rw (is, at) | inr at ↦ rw (is, at) same ] ]
+  | inl is ↦ elim (cases_Bool (holds other line)) [ inl at ↦ rw (is, at) | inr at ↦ rw (is, at) same ]
+  | inr is ↦ elim (cases_Bool (holds other line)) [ inl at ↦ rw (is, at) | inr at ↦ rw (is, at) same ]
+]
 
 pub write_keeps_tags : (block offset width value other : ℕ) (lines : List Line) →
     tag_by (find (holds other) (with_written block offset width value lines)) ≡ tag_by (find (holds other) lines)

@@ -1,17 +1,17 @@
 -- The lines of a set stay lines of that set: at most as many as there are ways, each with a block of the set, all
 -- with blocks of their own.
-use Rattle.std.proofs.Common.{◌≡◌, ◌≢◌, ℕ, zero, suc, ◌+◌, ◌<◌, ◌≤◌, Bool, true, false, not, cond, eqb, List, [], ◌∷◌, ◌++◌, length, drop, map, filter, Option, Some, None, refl, ap, sym, ◌∙◌, subst, inl, inr, arith, length-append}
-use Rattle.std.specs.List.{find, All, count_by}
-use Rattle.std.proofs.lemmas.Bool.{cases_Bool, cases_eq, cases_lt, ne_eqb, eq-eqb, eqb-true, eqb-false}
+use Rattle.std.proofs.Common.{◌≡◌, ◌≢◌, ℕ, suc, ◌+◌, ◌<◌, ◌≤◌, Bool, true, false, not, cond, eqb, List, [], ◌∷◌, ◌++◌, length, drop, map, filter, Some, None, refl, ap, ◌∙◌, subst, inl, inr, arith, length-append}
+use Rattle.std.specs.List.{find, All}
+use Rattle.std.proofs.lemmas.Bool.{cases_Bool, cases_eq, cases_lt, ne_eqb, eq-eqb}
 use Rattle.std.proofs.lemmas.List.{length-map}
 use Rattle.std.proofs.lemmas.List.Sums.{length-filter, count_by-le-length}
 use Rattle.std.proofs.lemmas.List.Elements.{All-filter, All-map, All-append, All-cons, All-nil, filter-append}
 use Rattle.wt_params.specs.declared.parts.MachineParts.{MachineParts}
-use Rattle.priv_mem.specs.Memory.{low_bytes, overwritten}
+use Rattle.priv_mem.specs.Memory.{low_bytes}
 use Rattle.priv_mem.proofs.MemoryLaws.{length-low_bytes, length-overwritten}
 use Rattle.target_cache.specs.declared.line.Line.{Line}
-use Rattle.target_cache.specs.Lines.{AreDistinct, holds, tag_by, written_line, with_written, without, replaced_in, with_installed}
-use Rattle.target_cache.specs.Cached.{AreLines, LineFits, set_of}
+use Rattle.target_cache.specs.Lines.{AreDistinct, holds, written_line, with_written, without, with_installed}
+use Rattle.target_cache.specs.Cached.{AreLines, LineFits}
 use Rattle.target_cache.proofs.PlaceLaws.{none_passes}
 use Rattle.target_cache.proofs.LineLaws.{free_way_takes, full_set_takes, first_out}
 
@@ -19,8 +19,9 @@ use Rattle.target_cache.proofs.LineLaws.{free_way_takes, full_set_takes, first_o
 fewer_step : (p q : Line → Bool) (x : Line) (xs : List Line) → length (filter q (filter p xs)) ≤ length (filter q xs) →
     length (filter q (filter p (x ∷ xs))) ≤ length (filter q (x ∷ xs))
 fewer_step p q x xs fewer = elim (cases_Bool (p x)) [
-    inl is ↦ elim (cases_Bool (q x)) [ inl at ↦ rw (is, at) (omega arith) | inr at ↦ rw (is, at) fewer ]
-  | inr is ↦ elim (cases_Bool (q x)) [ inl at ↦ rw (is, at) (omega arith) | inr at ↦ rw (is, at) fewer ] ]
+  | inl is ↦ elim (cases_Bool (q x)) [ inl at ↦ rw (is, at) (omega arith) | inr at ↦ rw (is, at) fewer ]
+  | inr is ↦ elim (cases_Bool (q x)) [ inl at ↦ rw (is, at) (omega arith) | inr at ↦ rw (is, at) fewer ]
+]
 
 fewer : (p q : Line → Bool) (xs : List Line) → length (filter q (filter p xs)) ≤ length (filter q xs)
 fewer p q [] = omega arith
@@ -40,8 +41,9 @@ lines-without machine set block lines are =
 as_many_step : (p : Line → Bool) (f : Line → Line) (x : Line) (xs : List Line) → p (f x) ≡ p x →
     length (filter p (map f xs)) ≡ length (filter p xs) → length (filter p (map f (x ∷ xs))) ≡ length (filter p (x ∷ xs))
 as_many_step p f x xs same rest = elim (cases_Bool (p x)) [
-    inl is ↦ let now : p (f x) ≡ true = same ∙ is in rw (now, is) (ap suc rest)
-  | inr is ↦ let now : p (f x) ≡ false = same ∙ is in rw (now, is) rest ]
+  | inl is ↦ let now : p (f x) ≡ true = same ∙ is in rw (now, is) (ap suc rest)
+  | inr is ↦ let now : p (f x) ≡ false = same ∙ is in rw (now, is) rest
+]
 
 as_many : (p : Line → Bool) (f : Line → Line) (xs : List Line) → ((x : Line) → p (f x) ≡ p x) → length (filter p (map f xs)) ≡ length (filter p xs)
 as_many p f [] same = refl
@@ -60,12 +62,13 @@ write_keeps_size offset width value line inside =
 written_fits : (machine : MachineParts) (set block offset width value : ℕ) (line : Line) → offset + width ≤ machine.block_bytes →
     LineFits machine set line → LineFits machine set (cond (holds block line) (written_line offset width value line) line)
 written_fits machine set block offset width value line inside fits = elim (cases_Bool (holds block line)) [
-    inl is ↦ rw is (record {
-      exists = fits.exists;
-      here = fits.here;
-      size = write_keeps_size offset width value line (omega (arith, fits.size)) ∙ fits.size;
-    })
-  | inr is ↦ rw is fits ]
+  | inl is ↦ rw is (record {
+    exists = fits.exists;
+    here = fits.here;
+    size = write_keeps_size offset width value line (omega (arith, fits.size)) ∙ fits.size;
+  })
+  | inr is ↦ rw is fits
+]
 
 pub lines-written : (machine : MachineParts) (set block offset width value : ℕ) (lines : List Line) → offset + width ≤ machine.block_bytes →
     AreLines machine set lines → AreLines machine set (with_written block offset width value lines)
@@ -81,13 +84,14 @@ lines-written machine set block offset width value lines inside are =
 distinct_added : (line : Line) (lines : List Line) (other : ℕ) → AreDistinct lines → find (holds line.block) lines ≡ None →
     length (filter (holds other) (lines ++ line ∷ [])) ≤ 1
 distinct_added line lines other distinct none = elim (cases_eq line.block other) [
-    inl same ↦
+  | inl same ↦
       let empty : length (filter (holds other) lines) ≡ 0 = subst (λ (b : ℕ). length (filter (holds b) lines) ≡ 0) same (none_passes (holds line.block) lines none) in
       let is : eqb line.block other ≡ true = eq-eqb line.block other same in
       rw (filter-append (holds other) lines (line ∷ []), is) (omega (arith, length-append (filter (holds other) lines) (line ∷ [])))
   | inr apart ↦
       let is : eqb line.block other ≡ false = ne_eqb line.block other apart in
-      rw (filter-append (holds other) lines (line ∷ []), is) (omega (arith, length-append (filter (holds other) lines) [], distinct other)) ]
+      rw (filter-append (holds other) lines (line ∷ []), is) (omega (arith, length-append (filter (holds other) lines) [], distinct other))
+]
 
 pub lines-added : (machine : MachineParts) (set : ℕ) (line : Line) (lines : List Line) → LineFits machine set line → length lines < machine.ways →
     find (holds line.block) lines ≡ None → AreLines machine set lines → AreLines machine set (lines ++ line ∷ [])
@@ -118,8 +122,9 @@ full_installed machine set line (first ∷ rest) fits some full none are =
 pub lines-installed : (machine : MachineParts) (set : ℕ) (line : Line) (lines : List Line) → LineFits machine set line → 1 ≤ machine.ways →
     find (holds line.block) lines ≡ None → AreLines machine set lines → AreLines machine set (with_installed machine.ways line lines)
 lines-installed machine set line lines fits some none are = elim (cases_lt (length lines) machine.ways) [
-    inl free ↦ rw (free_way_takes machine.ways line lines free) (lines-added machine set line lines fits free none are)
-  | inr full ↦ rw (full_set_takes machine.ways line lines full) (full_installed machine set line lines fits some full none are) ]
+  | inl free ↦ rw (free_way_takes machine.ways line lines free) (lines-added machine set line lines fits free none are)
+  | inr full ↦ rw (full_set_takes machine.ways line lines full) (full_installed machine set line lines fits some full none are)
+]
 
 pub lines-none : (machine : MachineParts) (set : ℕ) → AreLines machine set []
 lines-none machine set = record { few = omega arith; fit = All-nil (LineFits machine set); distinct = λ other. omega arith }

@@ -96,7 +96,7 @@ pub record AreLines (machine : MachineParts) (set : ℕ) (lines : List Line) : T
 pub record IsCached (cache : Cached) : Type 0 where
   pub count : length cache.sets ≡ cache.machine.sets
   pub lines : (set : ℕ) → set < cache.machine.sets →
-    AreLines cache.machine set (slice_index_or cache.sets set [])
+      AreLines cache.machine set (slice_index_or cache.sets set [])
 
 -- a tag for each block, by its line
 pub record AreTags (cache : Cached) (tags : List Tag) : Type 0 where

@@ -1,8 +1,8 @@
 -- The lines of one set of a cache, the one installed first in front. Own.
-use Rattle.std.specs.Prelude.{◌≡◌, ℕ, ◌+◌, ◌<◌, ◌≤◌, ◌%◌, ◌==◌, Bool, not, nat_lt, if◌then◌else◌, List, [], ◌∷◌, ◌++◌, length, drop, map, filter, find, slice_get, slice_range, Option, None, Some}
+use Rattle.std.specs.Prelude.{ℕ, ◌+◌, ◌≤◌, ◌==◌, Bool, not, nat_lt, if◌then◌else◌, List, [], ◌∷◌, ◌++◌, length, drop, map, filter, slice_get, slice_range, Option, None, Some}
 use Rattle.block_tags.specs.declared.tag.Tag.{Tag}
 use Rattle.block_tags.specs.declared.tag.Tag.TheVariants.{Invalid, ReadOnly, Writable}
-use Rattle.priv_mem.specs.Memory.{IsWidth, little_endian, low_bytes, overwritten}
+use Rattle.priv_mem.specs.Memory.{little_endian, low_bytes, overwritten}
 use Rattle.target_cache.specs.declared.line.Line.{Line}
 
 -- whether a line is that of a block

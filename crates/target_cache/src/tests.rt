@@ -68,18 +68,33 @@ fn a_set_of_two_ways(rt: HostRuntime) -> Result<(), Fail> {
 
     assert_eq!(rt; install(&rt, &mut cache, line(0, false, 0x10)), None);
     assert_eq!(rt; install(&rt, &mut cache, line(1, true, 0x11)), None);
-    assert_eq!(rt; (cache.tag(0), cache.tag(1), cache.tag(2)), (Tag::ReadOnly, Tag::Writable, Tag::Invalid));
+    assert_eq!(rt;
+        (cache.tag(0), cache.tag(1), cache.tag(2)),
+        (Tag::ReadOnly, Tag::Writable, Tag::Invalid)
+    );
     assert_eq!(rt; cache.read(0, 2, 2), Some(0x1010));
-    assert_eq!(rt; install(&rt, &mut cache, line(2, true, 0x12)), Some(line(0, false, 0x10)));
+    assert_eq!(rt;
+        install(&rt, &mut cache, line(2, true, 0x12)),
+        Some(line(0, false, 0x10))
+    );
     assert_eq!(rt; cache.drop_block(1), Some(line(1, true, 0x11)));
     assert_eq!(rt; cache.drop_block(1), None);
     assert_eq!(rt; install(&rt, &mut cache, line(3, false, 0x13)), None);
-    assert_eq!(rt; install(&rt, &mut cache, line(4, true, 0x14)), Some(line(2, true, 0x12)));
+    assert_eq!(rt;
+        install(&rt, &mut cache, line(4, true, 0x14)),
+        Some(line(2, true, 0x12))
+    );
 
     assert_eq!(rt; cache.write(3, 0, 4, 1), WriteHit::ReadOnly);
     assert_eq!(rt; cache.write(2, 0, 4, 1), WriteHit::Absent);
-    assert_eq!(rt; (cache.read(3, 0, 4), cache.read(2, 0, 4)), (Some(0x1313_1313), None));
+    assert_eq!(rt;
+        (cache.read(3, 0, 4), cache.read(2, 0, 4)),
+        (Some(0x1313_1313), None)
+    );
     assert_eq!(rt; cache.write(4, 14, 2, 0xaabb_ccdd), WriteHit::Hit);
-    assert_eq!(rt; (cache.read(4, 12, 4), cache.read(4, 15, 1)), (Some(0xccdd_1414), Some(0xcc)));
+    assert_eq!(rt;
+        (cache.read(4, 12, 4), cache.read(4, 15, 1)),
+        (Some(0xccdd_1414), Some(0xcc))
+    );
     Ok(())
 }

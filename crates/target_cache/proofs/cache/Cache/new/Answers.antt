@@ -1,6 +1,4 @@
-use Rattle.std.proofs.Common.{◌≡◌, ℕ, ◌≤◌, List, [], length, replicate, refl, ap, sym, ◌∙◌, subst, arith}
-use Rattle.block_tags.specs.declared.tag.Tag.TheVariants.{Invalid}
-use Rattle.target_cache.specs.Cached.{cached, empty_cache}
+use Rattle.std.proofs.Common.{arith}
 use Rattle.target_cache.proofs.KeptLaws.{kept_empty, empty_is}
 use Rattle.target_cache.proofs.cache.Cache.new.Goals as goal
 

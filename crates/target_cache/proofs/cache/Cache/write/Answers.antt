@@ -1,8 +1,5 @@
-use Rattle.std.proofs.Common.{◌≡◌, ◌≢◌, ℕ, List, length, Some, refl, ap, sym, ◌∙◌, subst, arith}
-use Rattle.block_tags.specs.declared.tag.Tag.{Tag}
+use Rattle.std.proofs.Common.{◌≡◌, ap, sym, ◌∙◌, arith}
 use Rattle.block_tags.specs.declared.tag.Tag.TheVariants.{Invalid, ReadOnly, Writable}
-use Rattle.target_cache.specs.declared.line.Line.{Line}
-use Rattle.target_cache.specs.Lines.{LinesInRoom}
 use Rattle.target_cache.specs.Cached.{Cached, set_of, tag_of, write_of}
 use Rattle.target_cache.proofs.SetLaws.{access_inside}
 use Rattle.target_cache.proofs.KeptLaws.{Reached, reached, held_are, kept_written, put_written, not_written}
@@ -25,8 +22,8 @@ write-requires-clause-distinct c = let are = held_are _ _ _ _ _ _ (reached_write
 pub invariant_of-self : goal.invariant_of-self
 invariant_of-self c =
     let r : Reached c.self.inside.machine c.self.inside.tags c.self.inside.sets.items c.args.block c.set-i.result c.index_mut-set.result.now =
-      reached c.self.inside.machine c.self.inside.tags c.self.inside.sets.items c.args.block c.set-i.result c.index_mut-set.result.now c.args.self.now
-      c.self.invariant c.self.view_is c.set-i.ensures.set c.set-i.ensures.there c.index_mut-set.ensures.value in
+    reached c.self.inside.machine c.self.inside.tags c.self.inside.sets.items c.args.block c.set-i.result c.index_mut-set.result.now c.args.self.now
+    c.self.invariant c.self.view_is c.set-i.ensures.set c.set-i.ensures.there c.index_mut-set.ensures.value in
     kept_written c.self.inside.machine c.self.inside.tags c.self.inside.sets.items c.args.block c.set-i.result c.index_mut-set.result.now c.write.new.self
     c.args.offset c.args.width c.args.value r
     (let same : c.self.inside.machine.block_bytes ≡ c.args.self.now.machine.block_bytes = ap (λ (cache : Cached). cache.machine.block_bytes) c.self.view_is in omega (arith, c.requires.access.inside))
@@ -35,8 +32,8 @@ invariant_of-self c =
 pub returns-in-Writable-clause-after : goal.returns-in-Writable-clause-after
 returns-in-Writable-clause-after c =
     let r : Reached c.self.inside.machine c.self.inside.tags c.self.inside.sets.items c.args.block c.set-i.result c.index_mut-set.result.now =
-      reached c.self.inside.machine c.self.inside.tags c.self.inside.sets.items c.args.block c.set-i.result c.index_mut-set.result.now c.args.self.now
-      c.self.invariant c.self.view_is c.set-i.ensures.set c.set-i.ensures.there c.index_mut-set.ensures.value in
+    reached c.self.inside.machine c.self.inside.tags c.self.inside.sets.items c.args.block c.set-i.result c.index_mut-set.result.now c.args.self.now
+    c.self.invariant c.self.view_is c.set-i.ensures.set c.set-i.ensures.there c.index_mut-set.ensures.value in
     put_written c.self.inside.machine c.self.inside.tags c.self.inside.sets.items c.args.block c.set-i.result c.index_mut-set.result.now c.write.new.self
     c.args.offset c.args.width c.args.value r c.write.ensures.lines
     (ap (λ (cache : Cached). tag_of cache c.args.block) c.self.view_is ∙ sym c.tag.ensures.tag ∙ c.in-Writable.is)
