@@ -29,6 +29,13 @@ impl Model for Loaded {
 }
 
 impl Loaded {
+    /// The images, in their order.
+    pub fn images(&self) -> &[Image]
+        ensures { result.now ≡ self.now.images }
+    {
+        self.images.as_slice()
+    }
+
     /// The address of a node's first instruction.
     pub fn entry(&self, node: u32) -> u32
         requires { node < self.now.nodes }

@@ -1,5 +1,5 @@
 -- What a text describes, or the first fault that refuses it. Own, over `serde_json`'s definition of what it reads.
-use Rattle.std.specs.Prelude.{ℕ, if◌then◌else◌, List, Option, Some, None, option_map, Result, Ok, Err}
+use Rattle.std.specs.Prelude.{◌≡◌, ◌⊎◌, ℕ, length, All, if◌then◌else◌, List, Option, Some, None, option_map, Result, Ok, Err}
 use Rattle.std.specs.Option.{option_or}
 use Rattle.std.specs.Str.{is_utf8}
 use Rattle.serde_json.specs.Data.{Data, Members}
@@ -12,7 +12,7 @@ use Rattle.machine_json.specs.declared.fault.MachineFault.TheVariants.{Syntax, N
 use Rattle.machine_json.specs.Answers.{unless, and_then}
 use Rattle.machine_json.specs.Table.{unknown_in, own_fields, cost_fields}
 use Rattle.machine_json.specs.Numbers.{parts_of, version_fault, fields_fault, costs_fault}
-use Rattle.machine_json.specs.Images.{images_of}
+use Rattle.machine_json.specs.Images.{images_of, IsPlaced}
 
 -- what a text says, where it is UTF-8 and JSON
 unfoldable pub data_of : List ℕ → Option Data
@@ -59,3 +59,8 @@ description_or_fault (Some description) = description_in description
 -- what a text describes
 abbrev pub description_of : List ℕ → Result Description MachineFault
 description_of bytes = description_or_fault (data_of bytes)
+
+-- one image for all nodes or one for each, and each for a place where an instruction can stand
+pub record HasImages (description : Description) : Type 0 where
+  pub count : (length description.images ≡ 1) ⊎ (length description.images ≡ description.machine.nodes)
+  pub placed : All IsPlaced description.images

@@ -1,5 +1,5 @@
 -- The images of a description. Own.
-use Rattle.std.specs.Prelude.{ℕ, ◌+◌, ◌%◌, ◌^◌, Bool, true, false, ◌==◌, ◌&&◌, ◌||◌, nat_lt, if◌then◌else◌, List, [], ◌∷◌, ◌++◌, codes, decimal, Option, Some, None, is_some, option_map, Result, Ok, Err}
+use Rattle.std.specs.Prelude.{◌≡◌, ℕ, ◌+◌, ◌%◌, ◌^◌, Bool, true, false, ◌==◌, ◌&&◌, ◌||◌, nat_lt, if◌then◌else◌, List, [], ◌∷◌, ◌++◌, codes, decimal, Option, Some, None, is_some, option_map, Result, Ok, Err}
 use Rattle.std.specs.Str.{bytes_eq}
 use Rattle.hex.specs.Hex.{decode_of}
 use Rattle.hex.specs.declared.error.FromHexError.{FromHexError}
@@ -20,6 +20,11 @@ image_key i = codes "images." ++ decimal i
 
 abbrev pub member_key : ℕ → List ℕ → List ℕ
 member_key i name = image_key i ++ codes "." ++ name
+
+-- where flat bytes go, an instruction can stand
+abbrev pub IsPlaced : ImageSpec → Type 0
+IsPlaced (Bytes at bytes) = at % 4 ≡ 0
+IsPlaced (File name elf at) = at % 4 ≡ 0
 
 -- a member's text
 abbrev pub text_or : ℕ → List ℕ → Option (List ℕ) → Result (List ℕ) MachineFault

@@ -1,7 +1,7 @@
-ghost use Rattle.std.specs.Prelude.{◌≡◌, None, Ok, IfOk, OnOk, IfErr};
+ghost use Rattle.std.specs.Prelude.{◌≡◌, ◌⊎◌, ◌%◌, None, Ok, All, length, IfOk, OnOk, IfErr};
 ghost use Rattle.hex.specs.Hex.{decode_of};
 ghost use Rattle.machine_json.specs.Answers.{IsFaultOf, IsRefusalOf};
-ghost use Rattle.machine_json.specs.Images.{text_of, place_of, is_elf_of, format_fault, bytes_or, hex_image, file_image, entry_fault, image_of, images_from, images_of};
+ghost use Rattle.machine_json.specs.Images.{text_of, place_of, is_elf_of, format_fault, bytes_or, hex_image, file_image, entry_fault, image_of, images_from, images_of, IsPlaced};
 ghost use Rattle.serde_json.specs.View.{view, items_view};
 
 use crate::description::ImageSpec;
@@ -22,6 +22,8 @@ pub(crate) fn read_images(
 ) -> Result<ImageSpecs, MachineFault>
     ensures ok { IfOk result (λ images. images_of nodes (view description.now) ≡ Ok images) }
     ensures fault { IfErr result (IsRefusalOf (images_of nodes (view description.now))) }
+    ensures count { IfOk result (λ images. (length images ≡ 1) ⊎ (length images ≡ nodes)) }
+    ensures placed { IfOk result (All IsPlaced) }
 {
     let Some(images) = description.get(IMAGES) else {
         return Err(MachineFault::Missing(key(alloc, IMAGES)?));
@@ -40,6 +42,8 @@ pub(crate) fn read_images(
 fn read_entries(alloc: Global, entries: &[Value]) -> Result<ImageSpecs, MachineFault>
     ensures ok { IfOk result (λ images. images_from 0 (items_view entries.now) ≡ Ok images) }
     ensures fault { IfErr result (IsRefusalOf (images_from 0 (items_view entries.now))) }
+    ensures count { IfOk result (λ images. length images ≡ length entries.now) }
+    ensures placed { IfOk result (All IsPlaced) }
 {
     let mut images = Vec::new(alloc);
     for (number, entry) in entries.iter().enumerate() {
@@ -52,6 +56,7 @@ fn read_entries(alloc: Global, entries: &[Value]) -> Result<ImageSpecs, MachineF
 fn read_image(alloc: Global, number: u64, entry: &Value) -> Result<ImageSpec, MachineFault>
     ensures ok { IfOk result (λ image. image_of number (view entry.now) ≡ Ok image) }
     ensures fault { IfErr result (IsRefusalOf (image_of number (view entry.now))) }
+    ensures placed { IfOk result IsPlaced }
 {
     check_entry(alloc, number, entry)?;
     match (entry.get(HEX), entry.get(FILE)) {
@@ -84,6 +89,7 @@ fn read_hex_image(
 ) -> Result<ImageSpec, MachineFault>
     ensures ok { IfOk result (λ image. hex_image number (view entry.now) (view hex.now) ≡ Ok image) }
     ensures fault { IfErr result (IsRefusalOf (hex_image number (view entry.now) (view hex.now))) }
+    ensures placed { IfOk result IsPlaced }
 {
     let text = read_text(alloc, number, HEX, hex)?;
     check_no_format(alloc, number, entry)?;
@@ -115,6 +121,7 @@ fn read_file_image(
 ) -> Result<ImageSpec, MachineFault>
     ensures ok { IfOk result (λ image. file_image number (view entry.now) (view file.now) ≡ Ok image) }
     ensures fault { IfErr result (IsRefusalOf (file_image number (view entry.now) (view file.now))) }
+    ensures placed { IfOk result IsPlaced }
 {
     let text = read_text(alloc, number, FILE, file)?;
     let elf = read_format(alloc, number, entry)?;
@@ -174,6 +181,7 @@ fn read_format(alloc: Global, number: u64, entry: &Value) -> Result<bool, Machin
 fn read_place(alloc: Global, number: u64, entry: &Value) -> Result<u32, MachineFault>
     ensures ok { IfOk result (λ place. place_of number (view entry.now) ≡ Ok place) }
     ensures fault { IfErr result (IsRefusalOf (place_of number (view entry.now))) }
+    ensures aligned { IfOk result (λ place. place % 4 ≡ 0) }
 {
     let Some(value) = entry.get(AT) else {
         return Ok(0);

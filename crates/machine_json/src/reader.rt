@@ -1,6 +1,6 @@
 ghost use Rattle.std.specs.Prelude.{◌≡◌, Ok, Some, None, IfOk, OnOk, IfErr};
 ghost use Rattle.machine_json.specs.Answers.{IsFaultOf, IsRefusalOf};
-ghost use Rattle.machine_json.specs.Description.{data_of, data_fault, keys_fault, description_of};
+ghost use Rattle.machine_json.specs.Description.{data_of, data_fault, keys_fault, description_of, HasImages};
 ghost use Rattle.serde_json.specs.View.{view};
 
 use crate::description::Description;
@@ -16,6 +16,7 @@ use std::alloc::Global;
 pub fn read_machine(alloc: Global, bytes: &[u8]) -> Result<Description, MachineFault>
     ensures ok { IfOk result (λ description. description_of bytes.now ≡ Ok description) }
     ensures fault { IfErr result (IsRefusalOf (description_of bytes.now)) }
+    ensures images { IfOk result HasImages }
 {
     let description = read_value(alloc, bytes)?;
     check_keys(alloc, &description)?;

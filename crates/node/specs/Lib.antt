@@ -1,3 +1,4 @@
 pub mod NodeState
 pub mod Event
 pub mod Inside
+pub mod Laws

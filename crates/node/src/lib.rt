@@ -4,10 +4,12 @@
 #![tactic(auto)]
 
 mod counters;
+mod laws;
 mod node;
 
 pub use self::node::Node;
 pub use counters::Counters;
+pub use laws::machines_are_simulations;
 
 #[cfg(test)]
 mod tests;

@@ -5,7 +5,10 @@ use wt_outside::{Failed, Sink, Store, StoreFail};
 #[test]
 fn a_missing_file_cannot_be_read(rt: HostRuntime) {
     let mut store = FileStore::new(rt);
-    assert_eq!(rt; store.read("no such folder/file", 10).err(), Some(StoreFail::Failed));
+    assert_eq!(rt;
+        store.read("no such folder/file", 10).err(),
+        Some(StoreFail::Failed)
+    );
 }
 
 #[test]

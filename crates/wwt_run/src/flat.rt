@@ -10,7 +10,6 @@ ghost use Rattle.wwt_run.specs.Report.{joined};
 ghost use Rattle.wwt_run.specs.Status.{status_after_of};
 
 use crate::head::Outcome;
-use wt_text::Line;
 use crate::refusal::{ImageRefusal, Refusal};
 use crate::report::report_alone;
 use crate::simulate::run_alone;
@@ -20,6 +19,7 @@ use std::alloc::Global;
 use wt_outside::{Failed, Sink, Store, StoreFail};
 use wt_params::{Machine, NoMemory};
 use wt_proto::{Cause, Mode};
+use wt_text::Line;
 
 /// No more bytes of a file than these are read.
 const READ_LIMIT: u64 = 16_777_216;

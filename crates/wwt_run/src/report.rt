@@ -5,12 +5,12 @@ ghost use Rattle.wt_text.specs.Text.{line_end};
 ghost use Rattle.wwt_run.specs.Report.{outcome_text_of, cause_text, state_text, processor_text, counts_text, event_counts_of, cache_counts_of, message_counts_of, output_text, node_line_of, count_line_of, out_line_of, total_line_of, report_lines};
 
 use crate::head::{Head, Outcome};
-use wt_text::Line;
 use crate::totals::{Totals, totals_of_one};
 use node::{Counters, Node};
 use std::alloc::Global;
 use wt_params::{Machine, NoMemory};
 use wt_proto::{Cause, Mode};
+use wt_text::Line;
 
 /// The lines of the report of a machine of one node.
 pub fn report_alone(

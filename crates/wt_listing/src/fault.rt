@@ -1,0 +1,19 @@
+ghost use Rattle.std.specs.Prelude.{◌≡◌};
+ghost use Rattle.wt_listing.specs.declared.fault.ListingFault.TheVariants.{NoMemory};
+
+/// Why a text wasn't written whole.
+#[derive(Clone, Copy, Debug, PartialEq, Eq)]
+pub enum ListingFault {
+    /// The sink failed.
+    Failed,
+    /// Memory was wanted and refused.
+    NoMemory,
+}
+
+impl From<wt_params::NoMemory> for ListingFault {
+    ghost from_gives = { λ _ fault. fault ≡ NoMemory };
+
+    fn from(_error: wt_params::NoMemory) -> ListingFault {
+        ListingFault::NoMemory
+    }
+}

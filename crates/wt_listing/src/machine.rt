@@ -1,0 +1,109 @@
+ghost use Rattle.std.specs.Prelude.{◌≡◌, flat_map, IfOk};
+ghost use Rattle.std.specs.List.{enumerate_from};
+ghost use Rattle.image_loader.specs.Images.{IsFor};
+ghost use Rattle.wt_listing.specs.Writes.{Writes};
+ghost use Rattle.wt_listing.specs.Listing.{version_line, field_line_of, image_line_of, machine_text};
+
+use crate::fault::ListingFault;
+use crate::write::write_line;
+use elf_image::Image;
+use image_loader::Loaded;
+use std::alloc::Global;
+use wt_outside::Sink;
+use wt_params::{Field, Machine, MachineParts, NoMemory};
+use wt_text::Line;
+
+/// Writes a machine and its images: `version 1`, then a line for each field in order, as key and value, and a line for
+/// each image, as `image 0 entry 0x00001000 segments 2`.
+pub fn write_machine<K: Sink>(
+    alloc: Global,
+    machine: &Machine,
+    loaded: &Loaded,
+    out: &mut K,
+) -> Result<(), ListingFault>
+    requires { IsFor machine.now loaded.now }
+    ensures { Writes (machine_text machine.now loaded.now) result (K.faults out.old) (K.faults out.new) (K.written out.old) (K.written out.new) }
+{
+    write_version(alloc, out)?;
+    write_fields(alloc, &machine.parts(), &Field::all(), out)?;
+    write_images(alloc, loaded.images(), out)
+}
+
+fn write_version<K: Sink>(alloc: Global, out: &mut K) -> Result<(), ListingFault>
+    ensures { Writes version_line result (K.faults out.old) (K.faults out.new) (K.written out.old) (K.written out.new) }
+{
+    let line = Line::new(alloc, b"version 1\n")?;
+    write_line(&line, out)
+}
+
+/// Writes a line for each of these fields.
+fn write_fields<K: Sink>(
+    alloc: Global,
+    machine: &MachineParts,
+    fields: &[Field],
+    out: &mut K,
+) -> Result<(), ListingFault>
+    ensures { Writes (flat_map (field_line_of machine.now) fields.now) result (K.faults out.old) (K.faults out.new) (K.written out.old) (K.written out.new) }
+{
+    for field in fields {
+        write_field(alloc, machine, *field, out)?;
+    }
+    Ok(())
+}
+
+fn write_field<K: Sink>(
+    alloc: Global,
+    machine: &MachineParts,
+    field: Field,
+    out: &mut K,
+) -> Result<(), ListingFault>
+    ensures { Writes (field_line_of machine.now field) result (K.faults out.old) (K.faults out.new) (K.written out.old) (K.written out.new) }
+{
+    let line = field_line(alloc, machine, field)?;
+    write_line(&line, out)
+}
+
+/// As `costs.op 1`.
+fn field_line(alloc: Global, machine: &MachineParts, field: Field) -> Result<Line, NoMemory>
+    ensures { IfOk result (λ line. line ≡ field_line_of machine.now field) }
+{
+    let mut line = Line::new(alloc, field.key().as_bytes())?;
+    line.text(b" ")?;
+    line.number(machine.number(field) as u128)?;
+    line.end()?;
+    Ok(line)
+}
+
+/// Writes a line for each of these images.
+fn write_images<K: Sink>(alloc: Global, images: &[Image], out: &mut K) -> Result<(), ListingFault>
+    ensures { Writes (flat_map image_line_of (enumerate_from 0 images.now)) result (K.faults out.old) (K.faults out.new) (K.written out.old) (K.written out.new) }
+{
+    for (number, image) in images.iter().enumerate() {
+        write_image(alloc, number, image, out)?;
+    }
+    Ok(())
+}
+
+fn write_image<K: Sink>(
+    alloc: Global,
+    number: usize,
+    image: &Image,
+    out: &mut K,
+) -> Result<(), ListingFault>
+    ensures { Writes (image_line_of (number, image.now)) result (K.faults out.old) (K.faults out.new) (K.written out.old) (K.written out.new) }
+{
+    let line = image_line(alloc, number, image)?;
+    write_line(&line, out)
+}
+
+/// As `image 0 entry 0x00001000 segments 2`.
+fn image_line(alloc: Global, number: usize, image: &Image) -> Result<Line, NoMemory>
+    ensures { IfOk result (λ line. line ≡ image_line_of (number, image.now)) }
+{
+    let mut line = Line::new(alloc, b"image ")?;
+    line.number(number as u128)?;
+    line.entry_hex(b" entry ", image.entry)?;
+    line.entry(b" segments ", image.segments.get().len() as u128)?;
+    line.end()?;
+    Ok(line)
+}

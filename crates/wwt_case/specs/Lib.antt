@@ -1,4 +1,0 @@
-pub mod Files
-pub mod Programs
-pub mod Case
-pub mod Reading
