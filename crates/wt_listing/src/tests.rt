@@ -1,5 +1,6 @@
 ghost use Rattle.std.specs.Prelude.{IfOk, IfSome, All, ◌≡◌, ◌≤◌, length, vec_len};
-ghost use Rattle.image_loader.specs.Images.{HoldsItsBytes, IsFor};
+ghost use Rattle.elf_image.specs.Sizes.{HoldsItsBytes};
+ghost use Rattle.image_loader.specs.Images.{IsFor};
 
 use super::*;
 use elf_image::{Bytes, Image, Segment, Segments, read_flat};
