@@ -2,18 +2,19 @@ use super::*;
 use std::test::Fail;
 use wt_outside::MemStore;
 
-/// What words call for over these files, as its first word: `check`, `dis`, `flat`, or why there is no job.
-fn told(rt: &HostRuntime, words: &[&str], files: &[(&str, &[u8])]) -> Result<String, Fail> {
+/// What words call for over a file `m` and a file `a`, as its first word: `check`, `dis`, `flat`, or why there is no
+/// job. Standard input is empty.
+fn told(rt: &HostRuntime, words: &[&str], m: &[u8], a: &[u8]) -> Result<String, Fail> {
     let alloc = rt.alloc();
     let mut texts = Vec::new(alloc);
     for word in words {
         texts.push(String::from_str(alloc, word)?)?;
     }
-    let mut held = Vec::new(alloc);
-    for (name, bytes) in files {
-        held.push((String::from_str(alloc, name)?, bytes.to_vec(alloc)?))?;
-    }
-    let mut store = MemStore::new(alloc, held, Vec::new(alloc));
+    let mut files = Vec::new(alloc);
+    files.push((String::from_str(alloc, "-")?, Vec::new(alloc)))?;
+    files.push((String::from_str(alloc, "m")?, m.to_vec(alloc)?))?;
+    files.push((String::from_str(alloc, "a")?, a.to_vec(alloc)?))?;
+    let mut store = MemStore::new(alloc, files, Vec::new(alloc));
     Ok(match prepare(alloc, &texts, &mut store) {
         Ok(Job::Check { .. }) => String::from_str(alloc, "check")?,
         Ok(Job::Dis { .. }) => String::from_str(alloc, "dis")?,
@@ -27,36 +28,41 @@ fn told(rt: &HostRuntime, words: &[&str], files: &[(&str, &[u8])]) -> Result<Str
     })
 }
 
+/// The second of three images is an executable, the third flat bytes.
 const TWO_FILES: &[u8] =
-    br#"{"version":1,"nodes":2,"images":[{"file":"a"},{"file":"b","format":"flat"}]}"#;
+    br#"{"version":1,"nodes":3,"images":[{"hex":""},{"file":"a","format":"elf"},{"file":"b","format":"flat"}]}"#;
+
+/// The second image names no file.
+const MISSING: &[u8] = br#"{"version":1,"nodes":2,"images":[{"hex":""},{"file":"b"}]}"#;
+
+const HEX: &[u8] = br#"{"version":1,"nodes":3,"images":[{"hex":"00"}]}"#;
 
 #[test]
 fn words_and_files_call_for_jobs(rt: HostRuntime) -> Result<(), Fail> {
-    let short = ("a", b"\x7fELF".as_slice());
-    let rows: [(&[&str], &[(&str, &[u8])], &str); 9] = [
-        (&[], &[], "usage"),
-        (&["run", "m"], &[], "usage"),
-        (&["check", "m"], &[], "read m"),
-        (&["check", "m"], &[("m", b"{".as_slice())], "machine"),
-        (&["check", "m"], &[("m", TWO_FILES)], "read a"),
+    let rows: [(&[&str], &[u8], &[u8], &str); 10] = [
+        (&[], b"", b"", "usage"),
+        (&["run", "m"], TWO_FILES, b"", "usage"),
+        (&["check", "b"], b"", b"", "read b"),
+        (&["check", "m"], b"{", b"", "machine"),
         (
             &["check", "m"],
-            &[("m", TWO_FILES), short],
+            TWO_FILES,
+            b"\x7fELF",
+            "image 1 Elf { fault: Short }",
+        ),
+        (&["check", "m"], MISSING, b"", "read b"),
+        (&["check", "m"], HEX, b"", "check"),
+        (&["dis", "a"], b"", b"\x7fEL", "dis"),
+        (
+            &["dis", "a"],
+            b"",
+            b"\x7fELF",
             "image 0 Elf { fault: Short }",
         ),
-        (
-            &["check", "m"],
-            &[(
-                "m",
-                br#"{"version":1,"nodes":3,"images":[{"hex":"00"}]}"#.as_slice(),
-            )],
-            "check",
-        ),
-        (&["dis", "a"], &[("a", b"\x7fEL".as_slice())], "dis"),
-        (&["flat"], &[("-", b"".as_slice())], "flat"),
+        (&["flat"], b"", b"", "flat"),
     ];
-    for (words, files, wanted) in rows {
-        assert_eq!(rt; told(&rt, words, files)?.as_str(), wanted);
+    for (words, m, a, wanted) in rows {
+        assert_eq!(rt; told(&rt, words, m, a)?.as_str(), wanted);
     }
     Ok(())
 }

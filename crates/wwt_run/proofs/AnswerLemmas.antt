@@ -9,7 +9,7 @@ use Rattle.node.specs.NodeState.{NodeState}
 use Rattle.wwt_run.specs.declared.head.Outcome.{Outcome}
 use Rattle.wwt_run.specs.declared.head.Outcome.TheVariants as outcomes
 use Rattle.wwt_run.specs.declared.status.Status.{Status}
-use Rattle.wwt_run.specs.declared.status.Status.TheVariants.{Done, NodeFault, Usage, Budget, EventLimit, Stalled, BadMachine, BadImage, ReadFault, WriteFault, NoMemory}
+use Rattle.wwt_run.specs.declared.status.Status.TheVariants.{Done, NodeFault, ReadFault, NoMemory}
 use Rattle.wwt_run.specs.Status.{status_of_refusal, status_after_of}
 use Rattle.wt_params.specs.Machine.{flat_machine}
 use Rattle.wwt_run.specs.Outcome.{outcome_of}
@@ -61,14 +61,14 @@ refused_end (Ok job) refusal status a b is ends unwritten early =
     elim ends [ inl write ↦ absurd (unwritten write) | inr memory ↦ inl (ap Some (is ∙ ap status_of_refusal memory)) ]
 refused_end (Err reason) refusal status a b is ends unwritten early =
     elim ends [
-    | inl same ↦ elim (early_or refusal) [
-      | inl write ↦ absurd (unwritten write)
-      | inr other ↦ elim other [
-        | inl memory ↦ inl (ap Some (is ∙ ap status_of_refusal memory))
-        | inr soon ↦ inr (ap Some (is ∙ ap status_of_refusal same), early soon)
+      | inl same ↦ elim (early_or refusal) [
+        | inl write ↦ absurd (unwritten write)
+        | inr other ↦ elim other [
+          | inl memory ↦ inl (ap Some (is ∙ ap status_of_refusal memory))
+          | inr soon ↦ inr (ap Some (is ∙ ap status_of_refusal same), early soon)
         ]
       ]
-    | inr memory ↦ inl (ap Some (is ∙ ap status_of_refusal memory))
+      | inr memory ↦ inl (ap Some (is ∙ ap status_of_refusal memory))
     ]
 
 pub read_of : (refusal : Refusal) → status_of_refusal refusal ≡ ReadFault → (name : List ℕ) × (refusal ≡ refusals.Read name)

@@ -5,7 +5,7 @@ use Rattle.wt_outside.specs.Files.{Files}
 use Rattle.wt_outside.specs.Growth.{Grows, GrowsByPrefix}
 use Rattle.wwt_case.specs.declared.job.Job.{Job}
 use Rattle.wwt_case.specs.declared.refusal.Refusal.{Refusal}
-use Rattle.wwt_case.specs.declared.refusal.Refusal.TheVariants.{Usage, Read, Machine, Image, Write, Memory}
+use Rattle.wwt_case.specs.declared.refusal.Refusal.TheVariants.{Read, Write, Memory}
 use Rattle.wwt_case.specs.Case.{case_of, names_of}
 use Rattle.wwt_case.specs.Reading.{Store}
 use Rattle.wwt_run.specs.declared.status.Status.{Status}

@@ -1,5 +1,5 @@
 -- What a job writes, and how it ends. Own.
-use Rattle.std.specs.Prelude.{◌≡◌, ℕ, List, [], slice_get, Option, Result, Ok, Err}
+use Rattle.std.specs.Prelude.{◌≡◌, ℕ, List, [], slice_get, Result, Ok, Err}
 use Rattle.std.specs.Option.{option_map_or}
 use Rattle.wt_params.specs.Machine.{flat_machine}
 use Rattle.elf_image.specs.declared.image.Image.{Image}

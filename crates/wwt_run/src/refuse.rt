@@ -32,14 +32,21 @@ pub fn refuse<E: Sink>(refusal: &Refusal, err: &mut E) -> Status
             Status::Usage
         }
         Refusal::Read { name } => {
-            say(refusal, &[b"wwt: cannot read ", name.get().as_bytes(), b"\n"], err);
+            say(
+                refusal,
+                &[b"wwt: cannot read ", name.get().as_bytes(), b"\n"],
+                err,
+            );
             Status::ReadFault
         }
         Refusal::Machine { fault } => {
             refuse_machine(refusal, fault, err);
             Status::BadMachine
         }
-        Refusal::Image { number, refusal: why } => {
+        Refusal::Image {
+            number,
+            refusal: why,
+        } => {
             refuse_image(refusal, *number, *why, err);
             Status::BadImage
         }
@@ -71,13 +78,25 @@ fn refuse_machine<E: Sink>(refusal: &Refusal, fault: &MachineFault, err: &mut E)
         MachineFault::Syntax => say(refusal, &[b"wwt: machine: ", b"syntax", b"\n"], err),
         MachineFault::NotObject => say(refusal, &[b"wwt: machine: ", b"not an object", b"\n"], err),
         MachineFault::Unknown(key) => {
-            say(refusal, &[b"wwt: machine: ", b"unknown ", key.get().as_bytes(), b"\n"], err)
+            say(
+                refusal,
+                &[b"wwt: machine: ", b"unknown ", key.get().as_bytes(), b"\n"],
+                err,
+            )
         }
         MachineFault::Missing(key) => {
-            say(refusal, &[b"wwt: machine: ", b"missing ", key.get().as_bytes(), b"\n"], err)
+            say(
+                refusal,
+                &[b"wwt: machine: ", b"missing ", key.get().as_bytes(), b"\n"],
+                err,
+            )
         }
         MachineFault::Kind(key) => {
-            say(refusal, &[b"wwt: machine: ", b"kind ", key.get().as_bytes(), b"\n"], err)
+            say(
+                refusal,
+                &[b"wwt: machine: ", b"kind ", key.get().as_bytes(), b"\n"],
+                err,
+            )
         }
         MachineFault::Range(key, value) => {
             refuse_range(refusal, key.get().as_bytes(), *value, err)
@@ -85,7 +104,11 @@ fn refuse_machine<E: Sink>(refusal: &Refusal, fault: &MachineFault, err: &mut E)
         MachineFault::Hex(image) => {
             let mut buffer = Buffer::new();
             let number = buffer.format(*image).as_bytes();
-            say(refusal, &[b"wwt: machine: ", b"hex images.", number, b"\n"], err)
+            say(
+                refusal,
+                &[b"wwt: machine: ", b"hex images.", number, b"\n"],
+                err,
+            )
         }
         MachineFault::NoMemory => say(refusal, &[b"wwt: machine: ", b"out of memory", b"\n"], err),
     }
@@ -98,7 +121,11 @@ fn refuse_range<E: Sink>(refusal: &Refusal, key: &[u8], value: u64, err: &mut E)
 {
     let mut buffer = Buffer::new();
     let number = buffer.format(value).as_bytes();
-    say(refusal, &[b"wwt: machine: ", b"range ", key, b" ", number, b"\n"], err)
+    say(
+        refusal,
+        &[b"wwt: machine: ", b"range ", key, b" ", number, b"\n"],
+        err,
+    )
 }
 
 #[tactic(auto, unfolding(crate::specs::Refused::error_line))]
@@ -110,18 +137,34 @@ fn refuse_image<E: Sink>(refusal: &Refusal, number: u32, why: ImageRefusal, err:
     let image = buffer.format(number).as_bytes();
     match why {
         ImageRefusal::TooLong => {
-            say(refusal, &[b"wwt: image ", image, b": ", b"too long", b"\n"], err)
+            say(
+                refusal,
+                &[b"wwt: image ", image, b": ", b"too long", b"\n"],
+                err,
+            )
         }
         ImageRefusal::Elf { fault } => {
-            say(refusal, &[b"wwt: image ", image, b": ", file_text(fault), b"\n"], err)
+            say(
+                refusal,
+                &[b"wwt: image ", image, b": ", file_text(fault), b"\n"],
+                err,
+            )
         }
         ImageRefusal::Outside { address } => {
             let digits = eight_digits(address);
-            say(refusal, &[b"wwt: image ", image, b": ", b"outside 0x", &digits, b"\n"], err)
+            say(
+                refusal,
+                &[b"wwt: image ", image, b": ", b"outside 0x", &digits, b"\n"],
+                err,
+            )
         }
         ImageRefusal::Entry { entry } => {
             let digits = eight_digits(entry);
-            say(refusal, &[b"wwt: image ", image, b": ", b"entry 0x", &digits, b"\n"], err)
+            say(
+                refusal,
+                &[b"wwt: image ", image, b": ", b"entry 0x", &digits, b"\n"],
+                err,
+            )
         }
     }
 }

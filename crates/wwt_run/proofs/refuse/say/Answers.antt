@@ -1,4 +1,4 @@
-use Rattle.std.proofs.Common.{◌≡◌, ◌∙◌, subst, arith}
+use Rattle.std.proofs.Common.{◌∙◌, subst}
 use Rattle.wt_outside.specs.Growth.{Grows, GrowsByPrefix}
 use Rattle.wt_outside.specs.Faults.{Rose}
 use Rattle.wt_outside.proofs.FaultLemmas.{not_both}

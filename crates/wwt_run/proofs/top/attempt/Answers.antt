@@ -1,4 +1,4 @@
-use Rattle.std.proofs.Common.{[], false, true, refl, sym, ◌∙◌}
+use Rattle.std.proofs.Common.{[], refl, sym, ◌∙◌}
 use Rattle.std.proofs.lemmas.Bool.{false≢true}
 use Rattle.wt_outside.proofs.GrowthLemmas.{prefix_nothing}
 use Rattle.wwt_case.specs.declared.job.Job.TheVariants.{Dis}

@@ -1,7 +1,6 @@
 use Rattle.std.proofs.Common.{◌≡◌, Some, Err, inl, inr, ap, sym, ◌∙◌}
 use Rattle.wt_outside.proofs.FaultLemmas.{not_both}
 use Rattle.wwt_run.specs.declared.status.Status.TheVariants.{Usage, ReadFault, WriteFault}
-use Rattle.wwt_run.specs.Status.{status_of_refusal}
 use Rattle.wwt_run.proofs.AnswerLemmas.{not_done, ok_status, refused_end, read_of}
 use Rattle.wwt_run.proofs.top.wwt_plain.Goals as goal
 
