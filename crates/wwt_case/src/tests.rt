@@ -15,7 +15,8 @@ fn told(rt: &HostRuntime, words: &[&str], m: &[u8], a: &[u8]) -> Result<String, 
     files.push((String::from_str(alloc, "m")?, m.to_vec(alloc)?))?;
     files.push((String::from_str(alloc, "a")?, a.to_vec(alloc)?))?;
     let mut store = MemStore::new(alloc, files, Vec::new(alloc));
-    Ok(match prepare(alloc, &texts, &mut store) {
+    let answer = prepare(alloc, &texts, &mut store);
+    Ok(match &answer {
         Ok(Job::Check { .. }) => String::from_str(alloc, "check")?,
         Ok(Job::Dis { .. }) => String::from_str(alloc, "dis")?,
         Ok(Job::Flat { .. }) => String::from_str(alloc, "flat")?,
