@@ -1,0 +1,32 @@
+/// What a node counts.
+#[derive(Clone, Copy, Debug, PartialEq, Eq, Default)]
+pub struct Counters {
+    /// Processor steps handled.
+    pub steps: u64,
+    /// Messages handled.
+    pub messages: u64,
+    /// Instructions finished, an exit among them.
+    pub done: u64,
+    /// Shared loads and stores done in their own step.
+    pub hits: u64,
+    /// Requests for a block that the processor sent without holding a copy.
+    pub misses: u64,
+    /// Requests to write a block that the processor held for reading.
+    pub upgrades: u64,
+    /// Lines replaced in the cache.
+    pub replaced: u64,
+    /// Copies dropped by a check-in.
+    pub checkins: u64,
+    /// Copies dropped by an invalidation.
+    pub invs: u64,
+    /// Directory traps.
+    pub traps: u64,
+    /// The cycles of all directory traps.
+    pub trap_cycles: u64,
+    /// Barriers passed.
+    pub barriers: u64,
+    /// Messages that nobody asked for.
+    pub stray: u64,
+    /// Messages sent.
+    pub sent: u64,
+}
