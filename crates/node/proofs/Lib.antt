@@ -1,2 +1,11 @@
 pub mod Memory
-pub mod NodeLaws
+pub mod Accesses
+pub mod Sends
+pub mod Kept
+pub mod Traps
+pub mod TrapRows
+pub mod StepKept
+pub mod Barriers
+pub mod MessageKept
+pub mod DataKept
+pub mod EventKept

@@ -1,13 +1,14 @@
--- What private memory answers to a fetch, and to the first bytes.
-use Rattle.std.proofs.Common.{◌≡◌, ℕ, ◌+◌, ◌%◌, ◌≤◌, Bool, true, false, cond, List, length, replicate, Some, None, Result, Ok, Err, IsOk, IfErr, refl, ap, ◌∙◌, arith}
+-- What private memory answers to a fetch, and what a refusal tells of an address.
+use Rattle.std.proofs.Common.{◌≡◌, ℕ, zero, suc, ◌+◌, ◌/◌, ◌%◌, ◌≤◌, Bool, true, false, cond, List, length, Some, None, Result, Ok, Err, refl, ap, sym, ◌∙◌, arith}
 use Rattle.std.specs.Prelude.{◌==◌, nat_le, not, slice_range}
 use Rattle.std.specs.Result.{result_ok}
+use Rattle.std.proofs.lemmas.Bool.{eqb-true}
 use Rattle.std.proofs.lemmas.Bool.Decides.{nat_tests}
-use Rattle.std.proofs.Math.ListN.{length-replicate}
 use Rattle.priv_mem.specs.declared.fault.MemFault.{MemFault}
 use Rattle.priv_mem.specs.declared.fault.MemFault.TheVariants.{Misaligned, Outside}
-use Rattle.priv_mem.specs.Memory.{load_of, fill_of, overwritten, is_misaligned, is_outside, access_gives, little_endian}
-use Rattle.node.specs.Event.{word_at}
+use Rattle.priv_mem.specs.Memory.{load_of, store_of, is_misaligned, is_outside, access_gives, little_endian, low_bytes, overwritten}
+use Rattle.priv_mem.proofs.MemoryLaws.{length-overwritten}
+use Rattle.node.specs.State.{word_at}
 
 aligned_at : (pc : ℕ) → pc % 4 ≡ 0 → is_misaligned pc 4 ≡ false
 aligned_at pc aligned = ap (λ rest. not (rest == 0)) aligned
@@ -26,17 +27,38 @@ fetch_is memory size pc whole pages aligned =
     by_tests (λ start. little_endian (slice_range memory start (start + 4))) (is_misaligned pc 4) (is_outside (length memory) pc 4) (nat_le size pc) pc (aligned_at pc aligned)
     (ap (λ n. is_outside n pc 4) whole ∙ outside_at size pc pages aligned)
 
-inside : (size count : ℕ) → count ≤ size → is_outside size 0 count ≡ false
-inside size count fits = grind (arith, nat_tests)
+-- An address that is refused as outside is aligned.
+refused_outside : {A : Type 0} (given : ℕ → A) (rest start : ℕ) (outside : Bool) → access_gives given (cond (not (rest == 0)) (Err Misaligned) (cond outside (Err Outside) (Ok start))) ≡ Err Outside → rest ≡ 0
+refused_outside given rest start outside is = by (rest == 0) refl
+  where
+    by : (b : Bool) → (rest == 0) ≡ b → rest ≡ 0
+    by true e = eqb-true rest 0 e
+    by false e = absurd (let f : Err Misaligned ≡ Err Outside = rw e at is in cc)
 
--- bytes that fit are laid in
-pub fill_is : (memory bytes : List ℕ) → length bytes ≤ length memory → fill_of memory 0 bytes ≡ Ok (overwritten memory 0 bytes)
-unfolding fill_of
-fill_is memory bytes fits = ap (λ b. cond b (Err Outside) (Ok (overwritten memory 0 bytes))) (inside (length memory) (length bytes) fits)
+pub load_outside : (memory : List ℕ) (address width : ℕ) → load_of memory address width ≡ Err Outside → address % width ≡ 0
+unfolding load_of
+load_outside memory address width is = refused_outside _ (address % width) address (is_outside (length memory) address width) is
 
-pub is_done : {A B : Type 0} (r : Result A MemFault) (x : Result B MemFault) (y : B) → IfErr r (λ fault. x ≡ Err fault) → x ≡ Ok y → IsOk r
-is_done (Ok a) x y fault done = refl
-is_done (Err e) x y fault done = cc
+pub store_outside : (memory : List ℕ) (address width value : ℕ) → store_of memory address width value ≡ Err Outside → address % width ≡ 0
+unfolding store_of
+store_outside memory address width value is = refused_outside _ (address % width) address (is_outside (length memory) address width) is
 
-pub all_fit : (memory bytes : List ℕ) (size : ℕ) → memory ≡ replicate size 0 → length bytes ≤ size → length bytes ≤ length memory
-all_fit memory bytes size is fits = omega (arith, ap length is, length-replicate {A = ℕ} size 0)
+-- A store leaves the memory as long as it was.
+stored_by : (memory bytes : List ℕ) (misaligned : Bool) (outside : Bool) (address : ℕ) (after : List ℕ) → (outside ≡ false → address + length bytes ≤ length memory) →
+    access_gives (λ start. overwritten memory start bytes) (cond misaligned (Err Misaligned) (cond outside (Err Outside) (Ok address))) ≡ Ok after → length after ≡ length memory
+stored_by memory bytes true outside address after inside is = absurd (let e : Err Misaligned ≡ Ok after = is in cc)
+stored_by memory bytes false true address after inside is = absurd (let e : Err Outside ≡ Ok after = is in cc)
+stored_by memory bytes false false address after inside is =
+    let e : Ok (overwritten memory address bytes) ≡ Ok after = is in
+    let same : overwritten memory address bytes ≡ after = cc in
+    ap length (sym same) ∙ length-overwritten memory bytes address (inside refl)
+
+low_length : (width value : ℕ) → length (low_bytes width value) ≡ width
+low_length zero value = refl
+low_length (suc width) value = ap suc (low_length width (value / 256))
+
+pub stored_length : (memory : List ℕ) (address width value : ℕ) (after : List ℕ) → 1 ≤ width → store_of memory address width value ≡ Ok after → length after ≡ length memory
+unfolding store_of
+stored_length memory address width value after some is =
+    stored_by memory (low_bytes width value) (is_misaligned address width) (is_outside (length memory) address width) address after
+    (λ inside. let bytes = low_length width value in grind (arith, nat_tests, bytes)) is

@@ -1,24 +1,39 @@
--- What the nodes of the machine keep and which messages fit, for the laws of a simulation. Own.
-use Rattle.std.specs.Prelude.{◌<◌, ◌≤◌}
+-- The wind tunnel as a simulation: which nodes and messages are sound, and which events a node may handle. Own.
+use Rattle.std.specs.Prelude.{◌≡◌}
 use Rattle.wt_params.specs.declared.parts.MachineParts.{MachineParts}
 use Rattle.wt_params.specs.Machine.{IsMachine}
-use Rattle.discrete_events.specs.Simulation.{Message}
-use Rattle.discrete_events.specs.Laws.{IsSimulation, IsConservative}
-use Rattle.node.specs.NodeState.{NodeState, events_of}
-use Rattle.node.specs.Event.{Body, wind_tunnel}
+use Rattle.wt_proto.specs.declared.key.Key.{Key}
+use Rattle.wt_proto.specs.declared.message.Msg.{Msg}
+use Rattle.wt_proto.specs.declared.message.Stamped.{Stamped}
+use Rattle.wt_proto.specs.Messages.{StampedFits}
+use Rattle.discrete_events.specs.Simulation.{Simulation, Event, Message}
+use Rattle.discrete_events.specs.Laws.{IsDue, IsSimulation, IsConservative}
+use Rattle.node.specs.declared.state.NodeState.{NodeState}
+use Rattle.node.specs.React.{wind_tunnel}
+use Rattle.node.specs.Sound.{IsNode}
 
-pub record IsOfMachine (machine : MachineParts) (node : NodeState) : Type 0 where
-  pub number : node.number < machine.nodes
-  pub events : events_of node ≤ machine.event_limit
+-- a message with its stamp
+abbrev pub stamped_message : Message Msg → Stamped
+stamped_message message = record {
+  time = message.0.time;
+  to = message.0.to;
+  from = message.0.from;
+  sequence = message.0.sequence;
+  msg = message.1;
+}
 
--- from a node of the machine to a node of the machine
-pub record Fits (machine : MachineParts) (message : Message Body) : Type 0 where
-  pub to : message.0.to < machine.nodes
-  pub from : message.0.from < machine.nodes
+-- a message that the machine can have
+abbrev pub Fits : MachineParts → Message Msg → Type 0
+Fits machine message = StampedFits machine (stamped_message message)
+
+-- an event that a node may handle now: it isn't spent, the event isn't at or past the budget, and is its own, and the
+-- earliest of them where it is a message to a running processor
+abbrev pub IsDueAt : MachineParts → NodeState → Key → Event Msg → Type 0
+IsDueAt machine node key event = IsDue (wind_tunnel machine) (Fits machine) node key event
 
 -- Every machine keeps the laws of a simulation, and its quanta are conservative.
 pub record IsWindTunnel (machine : MachineParts) : Type 0 where
-  pub laws : IsSimulation (wind_tunnel machine) (IsOfMachine machine) (Fits machine)
+  pub laws : IsSimulation (wind_tunnel machine) (IsNode machine) (Fits machine)
   pub quanta : IsConservative (wind_tunnel machine)
 
 abbrev pub MachinesAreSimulations : Type 0

@@ -1,15 +1,15 @@
-//! One node of the simulated machine: a processor with its registers and private memory.
-//!
-//! [`Node::handle_step`] is one event of the simulated machine, the next step of the node's processor.
+//! One node of the simulated machine: a processor with its registers, private memory, cache and directory.
 #![tactic(auto)]
 
-mod counters;
-mod laws;
-mod node;
-
-pub use self::node::Node;
-pub use counters::Counters;
-pub use laws::machines_are_simulations;
-
-#[cfg(test)]
-mod tests;
+mod annotation;
+mod barrier_message;
+mod call;
+mod data_message;
+mod directory_message;
+mod event;
+mod inv_message;
+mod output;
+mod private_access;
+mod processor;
+mod shared_access;
+mod state;
