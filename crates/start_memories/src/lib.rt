@@ -4,6 +4,7 @@
 
 mod private;
 mod shared;
+mod zeros;
 
 pub use private::private_at_start;
 pub use shared::directory_at_start;
