@@ -1,1 +1,4 @@
 pub mod Overwrites
+pub mod PartLaws
+pub mod NodeLaws
+pub mod HomesLaws

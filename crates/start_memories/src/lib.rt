@@ -2,6 +2,7 @@
 //! block whose home it is.
 #![tactic(auto)]
 
+mod part;
 mod private;
 mod shared;
 mod zeros;
