@@ -2,3 +2,4 @@ pub mod Overwrites
 pub mod PartLaws
 pub mod NodeLaws
 pub mod HomesLaws
+pub mod OnceLaws

@@ -9,3 +9,6 @@ mod zeros;
 
 pub use private::private_at_start;
 pub use shared::directory_at_start;
+
+#[cfg(test)]
+mod tests;

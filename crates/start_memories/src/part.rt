@@ -13,14 +13,20 @@ use wt_params::Machine;
 /// Where shared memory begins in every node's address space.
 pub(crate) const SHARED_BASE: u32 = 0x8000_0000;
 
-/// Lays the segments of all nodes into a part of shared memory that is all zero, the nodes in order.
+/// Lays the segments of all nodes into a part of shared memory that is all zero, the nodes in order. One image for all
+/// of them is laid once, since it leaves the same when it is laid again.
 pub(crate) fn load(machine: &Machine, loaded: &Loaded, start: u32, part: &mut [u8])
     requires images { IsFor machine.now loaded.now }
     requires zero { part.old ≡ replicate (length part.old) 0 }
     requires inside { start + length part.old ≤ machine.now.blocks * machine.now.block_bytes }
     ensures { part.new ≡ slice_range (shared_of loaded.now) start (start + length part.old) }
 {
-    for node in 0..machine.nodes() as u32 {
+    let nodes = machine.parts().nodes;
+    if loaded.images().len() == 1 {
+        lay_image(machine, loaded.image(0), start, part);
+        return;
+    }
+    for node in 0..nodes as u32 {
         lay_image(machine, loaded.image(node), start, part);
     }
 }
