@@ -64,7 +64,7 @@ part_of_shared machine loaded start zeros part segments images zero inside same 
     zeros_cut (shared_bytes loaded) start (start + length zeros) (omega arith) (omega (arith, size))
     in
     let before : IsPart (machine.blocks * machine.block_bytes) start (replicate (shared_bytes loaded) 0) zeros = record {
-      sized = sized;
+      whole = sized;
       inside = inside;
       bytes = zero ∙ ap (λ (n : ℕ). replicate n 0) (omega arith) ∙ sym cut;
     }

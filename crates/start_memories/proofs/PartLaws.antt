@@ -14,12 +14,6 @@ use Rattle.priv_mem.proofs.MemoryLaws.{length-overwritten}
 use Rattle.start_memories.specs.Parts.{IsPart, IsPartAfter}
 use Rattle.start_memories.proofs.Overwrites.{get_or-overwritten_inside, get_or-overwritten_before, get_or-overwritten_after, segment_in_two_parts}
 
--- what two changes make of a part
-pub part_after_both : (size start : ℕ) (before between after : List ℕ) (first second : List ℕ → List ℕ) →
-    IsPartAfter size start before between first → IsPartAfter size start between after second →
-    IsPartAfter size start before after (λ memory. second (first memory))
-part_after_both size start before between after first second one two = λ memory is. two (first memory) (one memory is)
-
 -- a part, where bytes are laid of which none lies in it
 apart : (memory bytes : List ℕ) (at start end : ℕ) → at + length bytes ≤ length memory → end ≤ length memory →
     min (at + length bytes) end ≤ max at start →
@@ -81,9 +75,9 @@ meets memory bytes at start end low high inside within first last some =
 pub part_apart : (size start at : ℕ) (part bytes : List ℕ) → at + length bytes ≤ size → min (at + length bytes) (start + length part) ≤ max at start →
     IsPartAfter size start part part (λ memory. overwritten memory at bytes)
 part_apart size start at part bytes inside beside = λ memory is. record {
-  sized = length-overwritten memory bytes at (omega (arith, is.sized)) ∙ is.sized;
+  whole = length-overwritten memory bytes at (omega (arith, is.whole)) ∙ is.whole;
   inside = is.inside;
-  bytes = is.bytes ∙ sym (apart memory bytes at start (start + length part) (omega (arith, is.sized)) (omega (arith, is.sized, is.inside)) beside);
+  bytes = is.bytes ∙ sym (apart memory bytes at start (start + length part) (omega (arith, is.whole)) (omega (arith, is.whole, is.inside)) beside);
 }
 
 -- bytes of which some lie in a part are laid into it so far
@@ -92,12 +86,12 @@ pub part_meets : (size start at low high : ℕ) (before after bytes : List ℕ) 
     after ≡ overwritten before (low - start) (slice_range bytes (low - at) (high - at)) →
     IsPartAfter size start before after (λ memory. overwritten memory at bytes)
 part_meets size start at low high before after bytes inside same first last some laid = λ memory is. record {
-  sized = length-overwritten memory bytes at (omega (arith, is.sized)) ∙ is.sized;
+  whole = length-overwritten memory bytes at (omega (arith, is.whole)) ∙ is.whole;
   inside = omega (arith, is.inside, same);
   bytes =
       laid
       ∙ ap (λ (part : List ℕ). overwritten part (low - start) (slice_range bytes (low - at) (high - at))) is.bytes
-      ∙ meets memory bytes at start (start + length before) low high (omega (arith, is.sized)) (omega (arith, is.sized, is.inside)) first last some
+      ∙ meets memory bytes at start (start + length before) low high (omega (arith, is.whole)) (omega (arith, is.whole, is.inside)) first last some
       ∙ ap (λ (count : ℕ). slice_range (overwritten memory at bytes) start (start + count)) (sym same);
 }
 
@@ -134,7 +128,7 @@ pub part_with_segment : (size start base at : ℕ) (before between after bytes :
 part_with_segment size start base at before between after bytes segment same place some own inside one two = λ memory is.
     let both : overwritten (overwritten memory at bytes) (at + length bytes) (replicate (segment.size - length bytes) 0) ≡ with_segment base memory segment =
     ap (λ (bytes : List ℕ). overwritten (overwritten memory at bytes) (at + length bytes) (replicate (segment.size - length bytes) 0)) same
-    ∙ sym (segment_in_two_parts base at memory segment place (omega (arith, is.sized)) own (omega (arith, is.sized)))
+    ∙ sym (segment_in_two_parts base at memory segment place (omega (arith, is.whole)) own (omega (arith, is.whole)))
     in
     subst (λ (after_both : List ℕ). IsPart size start after_both after) both (two (overwritten memory at bytes) (one memory is))
 

@@ -3,7 +3,7 @@ use Rattle.std.specs.Prelude.{◌≡◌, ℕ, ◌+◌, ◌≤◌, List, length, 
 
 -- the bytes that stand in a memory of a size from a place on
 pub record IsPart (size start : ℕ) (memory part : List ℕ) : Type 0 where
-  pub sized : length memory ≡ size
+  pub whole : length memory ≡ size
   pub inside : start + length part ≤ size
   pub bytes : part ≡ slice_range memory start (start + length part)
 

@@ -5,7 +5,6 @@
 mod part;
 mod private;
 mod shared;
-mod zeros;
 
 pub use private::private_at_start;
 pub use shared::directory_at_start;

@@ -4,12 +4,14 @@ ghost use Rattle.elf_image.specs.Sizes.{FitsItsSize};
 ghost use Rattle.image_loader.specs.Images.{IsFor};
 ghost use Rattle.image_loader.specs.Loading.{IsPlaced, with_segment, private_of};
 
-use crate::zeros::ZEROS;
 use elf_image::Segment;
 use image_loader::Loaded;
 use priv_mem::PrivMem;
 use std::alloc::Global;
 use wt_params::{Machine, NoMemory};
+
+/// Zeros, which are laid into memory a piece at a time.
+const ZEROS: [u8; 128] = [0; 128];
 
 /// A node's private memory at the start: zeros, and then the segments of the image that serves the node, in order.
 pub fn private_at_start(
