@@ -1,14 +1,18 @@
 -- Laws of a node's directory, while the memories of its blocks are filled in order.
-use Rattle.std.proofs.Common.{◌≡◌, ℕ, suc, ◌+◌, ◌-◌, ◌*◌, ◌/◌, ◌%◌, ◌<◌, ◌≤◌, List, [], ◌∷◌, ◌++◌, replicate, get_or, set, map, sym, ap, ◌∙◌, arith, append_assoc}
+use Rattle.std.proofs.Common.{◌≡◌, ℕ, suc, ◌+◌, ◌-◌, ◌*◌, ◌/◌, ◌%◌, ◌<◌, ◌≤◌, List, [], ◌∷◌, ◌++◌, replicate, get_or, set, map, sym, ap, ◌∙◌, arith, append_assoc, refl, subst, length}
+use Rattle.std.specs.Prelude.{All}
 use Rattle.std.specs.List.{range_with_len}
 use Rattle.std.proofs.lemmas.List.{get_or_at, set_at, append-nil}
-use Rattle.std.proofs.lemmas.List.FromFn.{length-map-range_with_len, map-range_with_len_more}
+use Rattle.std.proofs.lemmas.List.FromFn.{length-map-range_with_len, get_or-map-range_with_len, map-range_with_len_more}
 use Rattle.std.proofs.lemmas.Nat.{div-mul-add, mod-mul-add}
 use Rattle.std.proofs.Math.Nat.{div-mul-le_self, mul-le-mul_right}
 use Rattle.wt_params.specs.declared.parts.MachineParts.{MachineParts}
 use Rattle.dir1sw.specs.declared.home.HomeBlock.{HomeBlock}
 use Rattle.dir1sw.specs.Homes.{Homes, IsHome, count_of, fresh_block, start_of, block_of, with_block}
+use Rattle.dir1sw.specs.Fits.{HomeFits}
+use Rattle.dir1sw.specs.Table.{copies_of}
 use Rattle.image_loader.specs.Images.{LoadedImages}
+use Rattle.image_loader.specs.Loading.{block_of as loaded_block}
 use Rattle.start_memories.specs.Start.{block_at, block_at_start, homes_of}
 
 -- the block at a place of a node
@@ -93,3 +97,29 @@ module _ (machine : MachineParts) (loaded : LoadedImages) (node : ℕ) where
       ap (λ (blocks : List HomeBlock). record (start_of machine node) { blocks = blocks })
       (ap (λ (k : ℕ). set (homes_filled machine loaded node place).blocks k (block_at_start machine loaded (block_at machine node place))) (place_of machine.nodes node place there)
       ∙ filled_next (λ place. block_at_start machine loaded (block_at machine node place)) (count_of machine node) (fresh_block machine) place within)
+
+  -- what holds of each block of the node at the start holds of its directory
+  pub all_at_start : (P : HomeBlock → Type 0) →
+      ((place : ℕ) → place < count_of machine node → P (block_at_start machine loaded (block_at machine node place))) → All P (homes_of machine loaded node).blocks
+  all_at_start P each = λ k d within.
+      let low : k < count_of machine node =
+      omega (arith, within, length-map-range_with_len (λ place. block_at_start machine loaded (block_at machine node place)) 0 (count_of machine node))
+      in
+      subst P
+      (sym (get_or-map-range_with_len (λ place. block_at_start machine loaded (block_at machine node place)) 0 (count_of machine node) k k d low (omega arith)))
+      (each k low)
+
+  -- no copy of a block is counted
+  pub no_copies_at_start : All (λ (home : HomeBlock). copies_of home.entry.state ≡ 0) (homes_of machine loaded node).blocks
+  no_copies_at_start = all_at_start (λ (home : HomeBlock). copies_of home.entry.state ≡ 0) (λ place within. refl)
+
+  -- what is kept of each block fits the machine, where each memory has the bytes of a block
+  pub homes_fit : ((place : ℕ) → place < count_of machine node → length (loaded_block loaded (block_at machine node place)) ≡ machine.block_bytes) →
+      All (HomeFits machine) (homes_of machine loaded node).blocks
+  homes_fit sizes =
+      all_at_start (HomeFits machine)
+      (λ place within. record {
+        state = tt;
+        waiting = λ k d none. absurd (omega (arith, none));
+        memory = sizes place within;
+      })

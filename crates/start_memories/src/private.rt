@@ -22,7 +22,8 @@ pub fn private_at_start(
 ) -> Result<PrivMem, NoMemory>
     requires node { node < machine.now.nodes }
     requires images { IsFor machine.now loaded.now }
-    ensures { IfOk result (λ memory. memory ≡ private_of loaded.now node) }
+    ensures value { IfOk result (λ memory. memory ≡ private_of loaded.now node) }
+    ensures size { IfOk result (λ memory. length memory ≡ machine.now.private_bytes) }
 {
     let mut memory = PrivMem::new(alloc, machine.private_bytes() as u32)?;
     let image = loaded.image(node);

@@ -1,7 +1,9 @@
-ghost use Rattle.std.specs.Prelude.{◌≡◌, ◌<◌, IfOk};
+ghost use Rattle.std.specs.Prelude.{◌≡◌, ◌<◌, length, All, IfOk};
+ghost use Rattle.dir1sw.specs.Fits.{HomeFits};
 ghost use Rattle.dir1sw.specs.Homes.{IsHome, fresh_block, with_block};
 ghost use Rattle.dir1sw.specs.Homes.{block_of as kept_of};
 ghost use Rattle.image_loader.specs.Images.{IsFor};
+ghost use Rattle.image_loader.specs.Loading.{block_of};
 ghost use Rattle.start_memories.specs.Start.{block_at_start, homes_of};
 
 use crate::part::{self, SHARED_BASE};
@@ -20,7 +22,8 @@ pub fn directory_at_start(
 ) -> Result<Directory, NoMemory>
     requires node { node < machine.now.nodes }
     requires images { IsFor machine.now loaded.now }
-    ensures { IfOk result (λ directory. directory ≡ homes_of machine.now loaded.now node) }
+    ensures value { IfOk result (λ directory. directory ≡ homes_of machine.now loaded.now node) }
+    ensures fits { IfOk result (λ directory. All (HomeFits machine.now) directory.blocks) }
 {
     let mut directory = Directory::new(alloc, machine, node)?;
     let nodes = machine.nodes();
@@ -38,7 +41,8 @@ fn fill_block(machine: &Machine, loaded: &Loaded, block: u32, directory: &mut Di
     requires machine { directory.old.machine ≡ machine.now }
     requires here { IsHome directory.old block }
     requires fresh { kept_of directory.old block ≡ fresh_block machine.now }
-    ensures { directory.new ≡ with_block block (block_at_start machine.now loaded.now block) directory.old }
+    ensures value { directory.new ≡ with_block block (block_at_start machine.now loaded.now block) directory.old }
+    ensures size { length (block_of loaded.now block) ≡ machine.now.block_bytes }
 {
     let mut bytes = [0; 128];
     let memory = &mut bytes[..machine.block_bytes() as usize];
