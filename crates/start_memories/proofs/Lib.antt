@@ -1,0 +1,5 @@
+pub mod Overwrites
+pub mod PartLaws
+pub mod NodeLaws
+pub mod HomesLaws
+pub mod OnceLaws
