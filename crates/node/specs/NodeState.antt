@@ -4,7 +4,7 @@ use Rattle.wt_params.specs.declared.parts.MachineParts.{MachineParts}
 use Rattle.wt_params.specs.Machine.{IsMachine}
 use Rattle.priv_mem.specs.Memory.{overwritten}
 use Rattle.rv_exec.specs.Registers.{AreRegisters}
-use Rattle.node.specs.declared.counters.Counters.{Counters}
+use Rattle.wt_stats.specs.declared.counters.Counters.{Counters}
 use Rattle.wt_proto.specs.declared.key.Key.{Key}
 use Rattle.wt_proto.specs.declared.mode.Mode.{Mode}
 use Rattle.wt_proto.specs.declared.mode.Mode.TheVariants.{Running, Waiting}

@@ -3,12 +3,10 @@
 //! [`Node::handle_step`] is one event of the simulated machine, the next step of the node's processor.
 #![tactic(auto)]
 
-mod counters;
 mod laws;
 mod node;
 
 pub use self::node::Node;
-pub use counters::Counters;
 pub use laws::machines_are_simulations;
 
 #[cfg(test)]

@@ -5,7 +5,6 @@ ghost use Rattle.discrete_events.specs.World.{is_spent};
 ghost use Rattle.node.specs.NodeState.{IsNode, WaitsForABlock, KeepsEvents, events_of, start_node, filled_to};
 ghost use Rattle.node.specs.Event.{wind_tunnel, react, step_time, next_step_of, counted_step, stepped, fetched, executed, after_effect, loaded, stored, called, refused_access, finished, stopped, exited};
 
-use crate::counters::Counters;
 use priv_mem::{MemFault, PrivMem};
 use rv_decode::{LoadOp, StoreOp, decode};
 use rv_exec::{Effect, Regs, execute, load_width, store_width, widen};
@@ -13,6 +12,7 @@ use std::alloc::Global;
 use std::marker::Model;
 use wt_params::{Machine, NoMemory};
 use wt_proto::{Cause, Key, Mode};
+use wt_stats::Counters;
 
 /// One node: a processor with its registers and its private memory.
 #[derive(Drop)]
