@@ -69,7 +69,7 @@ pub written_fits : (machine : MachineParts) (cache : Cached) (block address widt
 written_fits machine cache block address width value is fits bytes aligned = record {
   machine_is = machine_after_write cache block (offset_of machine address) width value ∙ fits.machine_is;
   sound = cached_after_write cache block (offset_of machine address) width value fits.sound (some_sets machine cache is fits)
-    (subst (λ (m : MachineParts). offset_of machine address + width ≤ m.block_bytes) (sym fits.machine_is) (in_block machine.block_bytes address width is.block_bytes bytes aligned).1);
+      (subst (λ (m : MachineParts). offset_of machine address + width ≤ m.block_bytes) (sym fits.machine_is) (in_block machine.block_bytes address width is.block_bytes bytes aligned).1);
 }
 
 -- a dropped block is absent, and another that was absent stays so

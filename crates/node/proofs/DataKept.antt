@@ -1,27 +1,25 @@
 -- What the coming of a block keeps of its node.
-use Rattle.std.proofs.Common.{◌≡◌, ℕ, ◌+◌, ◌%◌, ◌^◌, ◌<◌, ◌≤◌, max, Bool, true, false, cond, List, [], ◌∷◌, length, Option, Some, None, refl, ap, sym, ◌∙◌, subst, arith, inl, inr}
-use Rattle.std.specs.Prelude.{All, ◌==◌, ◌&&◌, not, unwrap_or}
+use Rattle.std.proofs.Common.{◌≡◌, ℕ, ◌+◌, ◌^◌, ◌<◌, ◌≤◌, max, Bool, true, false, List, [], ◌∷◌, length, Option, Some, None, refl, ap, subst, arith, inl, inr}
+use Rattle.std.specs.Prelude.{All, ◌==◌}
 use Rattle.std.proofs.lemmas.Bool.{cases_Bool, eqb-true}
 use Rattle.wt_params.specs.declared.parts.MachineParts.{MachineParts}
-use Rattle.wt_params.specs.Machine.{IsMachine}
 use Rattle.rv_exec.specs.declared.effect.Effect.{Effect}
 use Rattle.rv_exec.specs.declared.effect.Effect.TheVariants.{Next, Load, Store, Cico, Call, Break, BadTarget, Illegal}
 use Rattle.rv_exec.specs.Meaning.{address_after}
-use Rattle.rv_exec.specs.Widths.{load_width_of, store_width_of, widened}
+use Rattle.rv_exec.specs.Widths.{store_width_of}
 use Rattle.wt_proto.specs.declared.mode.Mode.{Mode}
 use Rattle.wt_proto.specs.declared.mode.Mode.TheVariants.{Running, Waiting, InBarrier, Stopped}
 use Rattle.wt_stats.specs.declared.counters.Counters.{Counters}
 use Rattle.target_cache.specs.declared.line.Line.{Line}
-use Rattle.target_cache.specs.Cached.{Cached, read_of, write_of, replaced_of, install_of}
+use Rattle.target_cache.specs.Cached.{Cached, write_of, replaced_of, install_of}
 use Rattle.node.specs.declared.state.NodeState.{NodeState}
-use Rattle.node.specs.declared.state.Send.{Send}
-use Rattle.node.specs.State.{events_of, step_in, next_step_of, in_mode, with_cache, one_done, one_replaced, one_stray}
-use Rattle.node.specs.Handled.{Handled, quiet, sending, moved_on, give_back_of, gives_back}
-use Rattle.node.specs.SharedAccess.{offset_of, stored_value}
+use Rattle.node.specs.State.{next_step_of, in_mode, with_cache, one_done, one_stray}
+use Rattle.node.specs.Handled.{Handled, quiet, sending, give_back_of, gives_back}
+use Rattle.node.specs.SharedAccess.{offset_of}
 use Rattle.node.specs.DataMessage.{asks_for, effect_at, resumed, replacing, installed, fill_with, data_message_of}
-use Rattle.node.specs.Sound.{IsNode, CountsFit, CacheFits, ModeFits, WaitsFor, Asks, IsAskedFor, SendFits}
-use Rattle.node.proofs.Accesses.{LineFitsOpt, installed_fits, replaced_fits, written_fits}
-use Rattle.node.proofs.Kept.{HasBegun, Same, Went, went_on, all_none, after_aligned, step_in_is}
+use Rattle.node.specs.Sound.{CountsFit, CacheFits, ModeFits, WaitsFor, Asks, IsAskedFor, SendFits}
+use Rattle.node.proofs.Accesses.{installed_fits, replaced_fits, written_fits}
+use Rattle.node.proofs.Kept.{HasBegun, Went, went_on, after_aligned, step_in_is}
 use Rattle.node.proofs.StepKept.{gives_back_fits, store_width_is}
 
 -- a processor that asks for a block waits for it

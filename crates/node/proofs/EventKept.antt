@@ -1,8 +1,8 @@
 -- What an event as a whole keeps of its node, and that the wind tunnel is a simulation.
-use Rattle.std.proofs.Common.{◌≡◌, ◌≢◌, ℕ, suc, ◌+◌, ◌*◌, ◌%◌, ◌^◌, ◌<◌, ◌≤◌, max, Bool, true, false, cond, List, [], ◌∷◌, length, Option, Some, None, refl, ap, sym, ◌∙◌, subst, arith, inl, inr}
+use Rattle.std.proofs.Common.{◌≡◌, ◌≢◌, ℕ, suc, ◌+◌, ◌*◌, ◌^◌, ◌<◌, ◌≤◌, Bool, true, false, cond, List, [], ◌∷◌, length, Option, Some, None, refl, ap, sym, ◌∙◌, subst, arith}
 use Rattle.std.specs.Prelude.{All, ◌==◌, map}
 use Rattle.std.specs.List.{AllByRecursion}
-use Rattle.std.proofs.lemmas.Bool.{cases_Bool, eqb-true, ne_eqb}
+use Rattle.std.proofs.lemmas.Bool.{eqb-true}
 use Rattle.std.specs.declared.cmp.Ordering.TheVariants.{Less}
 use Rattle.wt_params.specs.declared.parts.MachineParts.{MachineParts}
 use Rattle.wt_params.specs.Machine.{IsMachine}
@@ -14,7 +14,7 @@ use Rattle.wt_proto.specs.declared.message.Stamped.{Stamped}
 use Rattle.wt_proto.specs.declared.mode.Mode.{Mode}
 use Rattle.wt_proto.specs.declared.mode.Mode.TheVariants.{Running, Waiting, InBarrier, Stopped}
 use Rattle.wt_proto.specs.KeyOrder.{key_cmp}
-use Rattle.wt_proto.specs.Messages.{MsgFits, StampedFits, BlockFits}
+use Rattle.wt_proto.specs.Messages.{MsgFits, StampedFits}
 use Rattle.wt_network.specs.Latency.{stamp_of}
 use Rattle.wt_trace.specs.declared.record.What.{What}
 use Rattle.discrete_events.specs.Simulation.{Event, Step, Arrival, Message, step_key}
@@ -23,18 +23,18 @@ use Rattle.discrete_events.specs.Laws.{IsDue, IsSent, Reacts, IsSimulation}
 use Rattle.node.specs.declared.state.NodeState.{NodeState}
 use Rattle.node.specs.declared.state.Course.{Course}
 use Rattle.node.specs.declared.state.Send.{Send}
-use Rattle.node.specs.State.{events_of, step_in, step_time, next_step_of, next_key, is_running}
+use Rattle.node.specs.State.{events_of, step_in, step_time, next_step_of, next_key}
 use Rattle.wt_trace.specs.declared.record.Deed.{Deed}
 use Rattle.node.specs.Handled.{Handled, IsHandled, IsStepped}
 use Rattle.node.specs.Processor.{fetch_of, step_by, step_of}
 use Rattle.node.specs.DirectoryMessage.{directory_message_of}
 use Rattle.node.specs.DataMessage.{data_message_of}
-use Rattle.node.specs.React.{stamped, stamped_from, counted_step, counted_message, message_by, message_of, ended, sends_of, react_with, react_to_step, react_to_message, react, message_under_key, wind_tunnel}
-use Rattle.node.specs.Sound.{IsNode, CountsFit, ModeFits, SendFits, IsSendable, AreSendable, MayStamp}
-use Rattle.node.specs.Laws.{Fits, IsWindTunnel, MachinesAreSimulations}
-use Rattle.node.proofs.Kept.{HasBegun, HasRoom, Same, Went, seen_more, step_in_is}
+use Rattle.node.specs.React.{stamped_from, counted_step, counted_message, message_by, message_of, ended, sends_of, react_with, react_to_step, react_to_message, react, message_under_key, wind_tunnel}
+use Rattle.node.specs.Sound.{IsNode, ModeFits, SendFits, AreSendable, MayStamp}
+use Rattle.node.specs.Laws.{Fits, MachinesAreSimulations}
+use Rattle.node.proofs.Kept.{HasBegun, Went, step_in_is}
 use Rattle.node.proofs.StepKept.{step_kept}
-use Rattle.node.proofs.MessageKept.{strays, inv_kept, arrive_kept, leave_kept, go_kept, directory_kept, same_mode}
+use Rattle.node.proofs.MessageKept.{strays, inv_kept, arrive_kept, leave_kept, go_kept, directory_kept}
 use Rattle.node.proofs.DataKept.{data_kept}
 
 module _ (machine : MachineParts) (old : NodeState) (is : IsNode machine old) (unspent : events_of old < machine.event_limit) where
@@ -183,13 +183,15 @@ pub all_sent : (machine : MachineParts) (node : NodeState) (key : Key) (from seq
 all_sent machine node key from sequence [] is source there fits = tt
 all_sent machine node key from sequence (send ∷ rest) is source there fits =
     let one : SendFits machine key.time send = fits 0 send (omega arith) in
-    let later = stamp_later machine from send.to send.at key.time is one.from_now in
-    (record {
-      fits = record { to = one.sendable.to; from = there; msg = one.msg };
-      source = source;
-      later = later.0;
-      late = λ apart. later.1 (λ e. apart (e ∙ source));
-    }, all_sent machine node key from (sequence + 1) rest is source there (λ k d below. fits (suc k) d (omega arith)))
+    let later = stamp_later machine from send.to send.at key.time is one.from_now in (
+      record {
+        fits = record { to = one.sendable.to; from = there; msg = one.msg };
+        source = source;
+        later = later.0;
+        late = λ apart. later.1 (λ e. apart (e ∙ source));
+      },
+      all_sent machine node key from (sequence + 1) rest is source there (λ k d below. fits (suc k) d (omega arith)),
+    )
 
 -- ---- the laws
 
@@ -302,3 +304,11 @@ message_stamps machine old key message begun now before after course is unspent 
     rw (s.node, s.sends)
     (may_stamp machine message.time message.time (counted_message key old) (message_of machine message.time message.from message.msg (counted_message key old))
     (message_went machine old is unspent message.time message.from message.msg key early fits.from fits.msg due))
+
+-- ---- a sound node stays sound
+
+pub step_sound : (machine : MachineParts) (node : NodeState) (key : Key) → IsNode machine node → IsDue (wind_tunnel machine) (Fits machine) node key Step → IsNode machine (react_to_step machine node).0
+step_sound machine node key is due = (steps machine is.numbers node key is due).sound
+
+pub message_sound : (machine : MachineParts) (node : NodeState) (key : Key) (message : Message Msg) → IsNode machine node → IsDue (wind_tunnel machine) (Fits machine) node key (Arrival message) → IsNode machine (react_to_message machine node message.0 message.1).0
+message_sound machine node key message is due = (arrives machine is.numbers node key message is due).sound

@@ -1,18 +1,17 @@
 -- What an event keeps of a node, by the parts of its state.
-use Rattle.std.proofs.Common.{◌≡◌, ℕ, suc, ◌+◌, ◌*◌, ◌%◌, ◌^◌, ◌<◌, ◌≤◌, max, Bool, true, false, List, [], ◌∷◌, length, Option, Some, None, refl, ap, sym, ◌∙◌, subst, arith}
+use Rattle.std.proofs.Common.{◌≡◌, ℕ, ◌+◌, ◌*◌, ◌%◌, ◌^◌, ◌<◌, ◌≤◌, List, [], ◌∷◌, length, Some, refl, arith}
 use Rattle.std.specs.Prelude.{All}
 use Rattle.wt_params.specs.declared.parts.MachineParts.{MachineParts}
 use Rattle.wt_params.specs.Machine.{IsMachine}
 use Rattle.rv_exec.specs.Meaning.{address_after}
-use Rattle.wt_proto.specs.declared.mode.Cause.{Cause}
 use Rattle.wt_proto.specs.declared.mode.Mode.{Mode}
 use Rattle.wt_proto.specs.declared.mode.Mode.TheVariants.{Running, Waiting, InBarrier, Stopped}
 use Rattle.target_cache.specs.Cached.{Cached}
 use Rattle.wt_stats.specs.declared.counters.Counters.{Counters}
 use Rattle.node.specs.declared.state.NodeState.{NodeState}
 use Rattle.node.specs.declared.state.Send.{Send}
-use Rattle.node.specs.State.{events_of, step_in, step_time, next_step_of, in_mode}
-use Rattle.node.specs.Handled.{Handled, moved_on}
+use Rattle.node.specs.State.{events_of, step_in, next_step_of}
+use Rattle.node.specs.Handled.{Handled}
 use Rattle.node.specs.Sound.{IsNode, CountsFit, CacheFits, DirectoryFits, BarrierFits, ModeFits, SendFits}
 
 -- so many events are counted, and there is room for what one of them counts

@@ -9,3 +9,4 @@ pub mod Barriers
 pub mod MessageKept
 pub mod DataKept
 pub mod EventKept
+pub mod StartKept

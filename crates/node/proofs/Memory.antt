@@ -1,10 +1,9 @@
 -- What private memory answers to a fetch, and what a refusal tells of an address.
-use Rattle.std.proofs.Common.{◌≡◌, ℕ, zero, suc, ◌+◌, ◌/◌, ◌%◌, ◌≤◌, Bool, true, false, cond, List, length, Some, None, Result, Ok, Err, refl, ap, sym, ◌∙◌, arith}
+use Rattle.std.proofs.Common.{◌≡◌, ℕ, zero, suc, ◌+◌, ◌/◌, ◌%◌, ◌≤◌, Bool, true, false, cond, List, length, Some, None, Ok, Err, refl, ap, sym, ◌∙◌, arith}
 use Rattle.std.specs.Prelude.{◌==◌, nat_le, not, slice_range}
 use Rattle.std.specs.Result.{result_ok}
 use Rattle.std.proofs.lemmas.Bool.{eqb-true}
 use Rattle.std.proofs.lemmas.Bool.Decides.{nat_tests}
-use Rattle.priv_mem.specs.declared.fault.MemFault.{MemFault}
 use Rattle.priv_mem.specs.declared.fault.MemFault.TheVariants.{Misaligned, Outside}
 use Rattle.priv_mem.specs.Memory.{load_of, store_of, is_misaligned, is_outside, access_gives, little_endian, low_bytes, overwritten}
 use Rattle.priv_mem.proofs.MemoryLaws.{length-overwritten}

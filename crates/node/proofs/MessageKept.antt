@@ -1,53 +1,47 @@
 -- What a message keeps of its node.
-use Rattle.std.proofs.Common.{◌≡◌, ℕ, zero, suc, ◌+◌, ◌-◌, ◌*◌, ◌/◌, ◌%◌, ◌^◌, ◌<◌, ◌≤◌, max, Bool, true, false, cond, List, [], ◌∷◌, ◌++◌, length, Option, Some, None, refl, ap, sym, ◌∙◌, subst, inl, inr, arith}
-use Rattle.std.specs.Prelude.{All, ◌==◌, ◌&&◌, not, map, filter, get_or}
-use Rattle.std.specs.List.{slice_index_or, slice_set, range_with_len}
-use Rattle.std.proofs.lemmas.Bool.{cases_Bool, eqb-true, ne_eqb}
-use Rattle.std.proofs.lemmas.List.{length-map, length-set, length-append, map-append}
-use Rattle.std.proofs.lemmas.List.Elements.{All-set, All-map, All-append, All-filter}
+use Rattle.std.proofs.Common.{◌≡◌, ℕ, ◌+◌, ◌*◌, ◌/◌, ◌^◌, ◌<◌, ◌≤◌, max, Bool, true, false, cond, List, [], ◌∷◌, length, Option, Some, None, refl, ap, ◌∙◌, inl, inr, arith}
+use Rattle.std.specs.Prelude.{All, ◌==◌, not, map}
+use Rattle.std.proofs.lemmas.Bool.{cases_Bool, eqb-true}
+use Rattle.std.proofs.lemmas.List.{length-map, length-set}
+use Rattle.std.proofs.lemmas.List.Elements.{All-set, All-map, All-filter}
 use Rattle.std.proofs.lemmas.List.FromFn.{length-range_with_len, get_or-range_with_len}
 use Rattle.wt_params.specs.declared.parts.MachineParts.{MachineParts}
 use Rattle.wt_params.specs.Machine.{IsMachine, home_of}
 use Rattle.wt_proto.specs.declared.directory.Targets.{Targets}
 use Rattle.wt_proto.specs.declared.directory.Targets.TheVariants.{AllBut, One}
 use Rattle.wt_proto.specs.declared.directory.TrapPlan.{TrapPlan}
-use Rattle.wt_proto.specs.declared.message.Body.{Body}
-use Rattle.wt_proto.specs.declared.message.Body.TheVariants.{Inv, InvAck, Go}
+use Rattle.wt_proto.specs.declared.message.Body.TheVariants.{InvAck, Go}
 use Rattle.wt_proto.specs.declared.message.Msg.{Msg}
 use Rattle.wt_proto.specs.declared.message.Outgoing.{Outgoing}
 use Rattle.wt_proto.specs.declared.mode.Mode.{Mode}
 use Rattle.wt_proto.specs.declared.mode.Mode.TheVariants.{Running, Waiting, InBarrier, Stopped}
-use Rattle.wt_proto.specs.Messages.{MsgFits, BlockFits as BlockExists}
+use Rattle.wt_proto.specs.Messages.{MsgFits}
 use Rattle.wt_proto.specs.NodeSets.{nodes_below}
 use Rattle.wt_stats.specs.declared.counters.Counters.{Counters}
-use Rattle.block_tags.specs.declared.tag.Tag.TheVariants.{Invalid}
 use Rattle.target_cache.specs.declared.line.Line.{Line}
-use Rattle.target_cache.specs.Cached.{Cached, tag_of, line_of, drop_of}
+use Rattle.target_cache.specs.Cached.{line_of, drop_of}
 use Rattle.dir1sw.specs.declared.home.DirAct.{DirAct}
 use Rattle.dir1sw.specs.declared.home.DirAct.TheVariants.{Done, Trap, Stray}
-use Rattle.dir1sw.specs.declared.home.HomeBlock.{HomeBlock}
 use Rattle.dir1sw.specs.declared.home.Place.{Place}
-use Rattle.dir1sw.specs.Table.{Row, copies_of, arrive_of}
 use Rattle.dir1sw.specs.Homes.{Homes, block_of, with_block, row_of, count_of, fresh_block}
-use Rattle.dir1sw.specs.Fits.{HomeFits, RowFits, ActFits, PlaceFits, SendFits as OutgoingFits}
+use Rattle.dir1sw.specs.Fits.{RowFits, ActFits, SendFits as OutgoingFits}
 use Rattle.dir1sw.proofs.FitsLaws.{rows_fit_law}
 use Rattle.target_barrier.specs.declared.barrier.Release.{Release}
 use Rattle.target_barrier.specs.declared.barrier.Release.TheVariants as releases
 use Rattle.target_barrier.specs.Barrier.{Barrier, arrive_of as barrier_arrive_of, leave_of as barrier_leave_of}
-use Rattle.trap_handler.specs.Trap.{targets_of, invalidation, trap_cycles_of, busy_after}
+use Rattle.trap_handler.specs.Trap.{targets_of, invalidation, busy_after}
 use Rattle.node.specs.declared.state.NodeState.{NodeState}
-use Rattle.node.specs.declared.state.Send.{Send}
-use Rattle.node.specs.State.{events_of, step_in, step_time, next_step_of, in_mode, with_cache, one_stray, one_inv, one_barrier}
-use Rattle.node.specs.Handled.{Handled, quiet, sending, moved_on, to_home, message_to, sent_at}
+use Rattle.node.specs.State.{step_in, next_step_of, one_stray, one_inv, one_barrier}
+use Rattle.node.specs.Handled.{Handled, quiet, moved_on, to_home, message_to, sent_at}
 use Rattle.node.specs.DirectoryMessage.{trap_sends, trapped, trap_of, act_by, row_handled, directory_message_of}
-use Rattle.node.specs.InvMessage.{dirty_bytes, without_copy, inv_by, inv_message_of}
-use Rattle.node.specs.BarrierMessage.{go_to, release_by, with_barrier, has_unit, unit_by, arrive_message_of, leave_message_of, go_by, go_message_of}
-use Rattle.node.specs.Sound.{IsNode, CountsFit, CacheFits, DirectoryFits, BlockFits, BarrierFits, ModeFits, WaitsFor, SendFits, AreRising}
+use Rattle.node.specs.InvMessage.{dirty_bytes, inv_by, inv_message_of}
+use Rattle.node.specs.BarrierMessage.{go_to, release_by, with_barrier, has_unit, arrive_message_of, leave_message_of, go_by, go_message_of}
+use Rattle.node.specs.Sound.{IsNode, CountsFit, DirectoryFits, BlockFits, BarrierFits, ModeFits, SendFits, AreRising}
 use Rattle.node.proofs.Accesses.{dropped_fits, still_absent, held_line_fits, LineFitsOpt}
 use Rattle.node.proofs.Barriers.{ReleaseFits, rising_few, rising_below, arrive_fits, leave_fits}
 use Rattle.node.proofs.Traps.{few_targets, few_cycles}
 use Rattle.node.proofs.TrapRows.{silent_trap}
-use Rattle.node.proofs.Kept.{HasBegun, HasRoom, Same, Went, seen_more, settled, went_on, all_none, all_one, after_aligned, step_in_is}
+use Rattle.node.proofs.Kept.{HasBegun, Same, Went, seen_more, settled, went_on, all_none, all_one, after_aligned, step_in_is}
 use Rattle.node.proofs.StepKept.{sends_one, home_below}
 
 -- a list of messages, each about the same time

@@ -1,10 +1,7 @@
 -- Lists of messages that are stamped or sent one by one.
-use Rattle.std.proofs.Common.{◌≡◌, ℕ, zero, suc, ◌+◌, ◌-◌, ◌<◌, ◌≤◌, List, [], ◌∷◌, ◌++◌, length, Option, Some, None, refl, ap, sym, ◌∙◌, arith}
+use Rattle.std.proofs.Common.{◌≡◌, ℕ, zero, suc, ◌+◌, List, [], ◌∷◌, ◌++◌, Some, None, refl, ap, ◌∙◌, arith}
 use Rattle.std.specs.Prelude.{take, slice_get, map}
-use Rattle.std.proofs.lemmas.List.{take_all}
-use Rattle.std.proofs.lemmas.Option.{slice_get_within}
 use Rattle.wt_params.specs.declared.parts.MachineParts.{MachineParts}
-use Rattle.wt_proto.specs.declared.message.Stamped.{Stamped}
 use Rattle.node.specs.declared.state.Send.{Send}
 use Rattle.node.specs.React.{stamped, stamped_from}
 

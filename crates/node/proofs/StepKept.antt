@@ -1,10 +1,9 @@
 -- What a step of the processor keeps of its node.
-use Rattle.std.proofs.Common.{◌≡◌, ℕ, suc, ◌+◌, ◌*◌, ◌/◌, ◌%◌, ◌^◌, ◌<◌, ◌≤◌, max, Bool, true, false, cond, eqb, List, [], ◌∷◌, ◌++◌, length, Option, Some, None, Result, Ok, Err, refl, ap, sym, ◌∙◌, subst, inl, inr, arith}
-use Rattle.std.specs.Prelude.{All, ◌==◌, nat_le, nat_lt, ◌&&◌, option_map}
+use Rattle.std.proofs.Common.{◌≡◌, ℕ, suc, ◌+◌, ◌%◌, ◌^◌, ◌<◌, ◌≤◌, max, Bool, true, false, cond, List, [], ◌∷◌, length, Option, Some, None, Result, Ok, Err, refl, ap, ◌∙◌, inl, inr, arith}
+use Rattle.std.specs.Prelude.{All, ◌==◌, nat_le, option_map}
 use Rattle.std.proofs.lemmas.Bool.{cases_Bool}
 use Rattle.std.proofs.lemmas.Bool.Decides.{nat_tests}
 use Rattle.wt_params.specs.declared.parts.MachineParts.{MachineParts}
-use Rattle.wt_params.specs.declared.parts.CostParts.{CostParts}
 use Rattle.wt_params.specs.Machine.{IsMachine, AreCosts, shared_block, home_of}
 use Rattle.rv_decode.specs.declared.instr.CicoOp.{CicoOp}
 use Rattle.rv_decode.specs.declared.instr.CicoOp.TheVariants.{CheckOutS, CheckOutX, CheckIn}
@@ -14,7 +13,7 @@ use Rattle.rv_decode.specs.declared.instr.StoreOp.TheVariants.{Sb, Sh, Sw}
 use Rattle.rv_decode.specs.Table.{decode_of}
 use Rattle.rv_exec.specs.declared.effect.Effect.{Effect}
 use Rattle.rv_exec.specs.declared.effect.Effect.TheVariants.{Next, Load, Store, Cico, Call, Break, BadTarget, Illegal}
-use Rattle.rv_exec.specs.Meaning.{meaning_of, address_after, IfNext}
+use Rattle.rv_exec.specs.Meaning.{address_after, IfNext}
 use Rattle.rv_exec.specs.Widths.{load_width_of, store_width_of, widened}
 use Rattle.rv_exec.proofs.MeaningLaws.{meaning_of-next}
 use Rattle.priv_mem.specs.declared.fault.MemFault.{MemFault}
@@ -24,31 +23,27 @@ use Rattle.wt_proto.specs.declared.message.Body.{Body}
 use Rattle.wt_proto.specs.declared.message.Body.TheVariants.{GetS, GetX, PutS, PutX, Arrive, Leave}
 use Rattle.wt_proto.specs.declared.mode.Cause.{Cause}
 use Rattle.wt_proto.specs.declared.mode.Cause.TheVariants as causes
-use Rattle.wt_proto.specs.declared.mode.Mode.{Mode}
 use Rattle.wt_proto.specs.declared.mode.Mode.TheVariants.{Running, Waiting, InBarrier, Stopped}
 use Rattle.wt_stats.specs.declared.counters.Counters.{Counters}
 use Rattle.wt_proto.specs.Messages.{MsgFits}
 use Rattle.block_tags.specs.declared.tag.Tag.{Tag}
 use Rattle.block_tags.specs.declared.tag.Tag.TheVariants.{Invalid, ReadOnly, Writable}
-use Rattle.cico_ops.specs.declared.annotation.CicoAction.{CicoAction}
 use Rattle.cico_ops.specs.Annotations.{action_of}
 use Rattle.target_cache.specs.declared.line.Line.{Line}
-use Rattle.target_cache.specs.Cached.{Cached, IsCached, tag_of, line_of, read_of, write_of, drop_of}
-use Rattle.target_cache.proofs.CacheLaws.{cached_after_drop, cached_after_write, none_after_drop, machine_after_write, machine_after_drop, line_is_of_block}
+use Rattle.target_cache.specs.Cached.{Cached, tag_of, line_of, read_of, write_of, drop_of}
 use Rattle.node.specs.declared.state.NodeState.{NodeState}
-use Rattle.node.specs.declared.state.Send.{Send}
-use Rattle.node.specs.State.{events_of, step_in, step_time, next_step_of, register, with_register, one_done, one_hit, one_miss, one_upgrade, one_checkin, with_cache, in_mode}
-use Rattle.node.specs.Handled.{Handled, quiet, sending, stopped, moved_on, loaded_into, stored_at, to_home, message_to, give_back_of, gives_back}
+use Rattle.node.specs.State.{register, with_register, one_done, one_hit, one_miss, one_upgrade, one_checkin, in_mode}
+use Rattle.node.specs.Handled.{Handled, quiet, sending, stopped, moved_on, loaded_into, stored_at, to_home, message_to, gives_back}
 use Rattle.node.specs.SharedAccess.{offset_of, missed, upgraded, hit_load_by, shared_load_of, hit_store_by, shared_store_of, stored_value}
 use Rattle.node.specs.PrivateAccess.{load_by, load_from, store_by, store_to}
 use Rattle.node.specs.Annotation.{annotated, checked_in, annotate_by, annotate_block, annotate_of}
 use Rattle.node.specs.Call.{barrier_call_of, exit_of, call_of}
 use Rattle.node.specs.Processor.{fetch_of, meaning_in, effect_by, execute_of, step_by, step_of}
 use Rattle.node.specs.DataMessage.{effect_at}
-use Rattle.node.specs.Sound.{IsNode, CountsFit, CacheFits, ModeFits, WaitsFor, Asks, AccessFits, SendFits}
+use Rattle.node.specs.Sound.{CountsFit, CacheFits, Asks, SendFits}
 use Rattle.node.proofs.Accesses.{block_exists, written_fits, dropped_fits, absent_after_drop, unread_absent, held_line_fits, LineFitsOpt}
 use Rattle.node.proofs.Memory.{load_outside, store_outside, stored_length}
-use Rattle.node.proofs.Kept.{HasBegun, Same, same, Went, settled, went_on, all_none, all_one, one_of_some, after_aligned, step_in_is}
+use Rattle.node.proofs.Kept.{HasBegun, Went, settled, went_on, all_none, all_one, after_aligned, step_in_is}
 
 pub home_below : (machine : MachineParts) (block : ℕ) → IsMachine machine → home_of machine block < machine.nodes
 home_below machine block is = grind arith
@@ -111,7 +106,7 @@ module _ (machine : MachineParts) (time : ℕ) (old : NodeState) (is : HasBegun 
 
   -- an instruction whose time is its cost, and that changes nothing else that must fit
   module _ (registers output : List ℕ) (counters : Counters) (cost : ℕ) (some : 1 ≤ cost) (most : cost ≤ 4096) (counts : CountsFit machine counters)
-    (steps : counters.steps ≡ old.counters.steps) (messages : counters.messages ≡ old.counters.messages) (sent : counters.sent ≡ old.counters.sent) where
+      (steps : counters.steps ≡ old.counters.steps) (messages : counters.messages ≡ old.counters.messages) (sent : counters.sent ≡ old.counters.sent) where
     passes : (handled : Handled) (private : List ℕ) (cache : Cached) → handled.node ≡ moved registers (address_after old.pc) cost private cache counters output → length private ≡ machine.private_bytes → CacheFits machine cache →
         All (SendFits machine time) handled.sends → length handled.sends ≤ machine.nodes + 1 → Went machine time (suc time) old handled
     passes handled private cache node whole fits sends few =

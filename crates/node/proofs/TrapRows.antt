@@ -1,5 +1,5 @@
 -- A row of the directory's tables that traps sends nothing by itself.
-use Rattle.std.proofs.Common.{◌≡◌, ℕ, ◌-◌, Bool, true, false, cond, List, [], ◌∷◌, ◌++◌, Option, Some, None, refl}
+use Rattle.std.proofs.Common.{◌≡◌, ℕ, ◌-◌, Bool, true, false, cond, List, [], ◌∷◌, Option, refl}
 use Rattle.std.specs.Prelude.{◌==◌, unwrap_or}
 use Rattle.wt_proto.specs.declared.directory.DirState.{DirState}
 use Rattle.wt_proto.specs.declared.directory.DirState.TheVariants.{Idle, Shared, Exclusive, Busy}
@@ -10,11 +10,10 @@ use Rattle.wt_proto.specs.declared.directory.TrapPlan.{TrapPlan}
 use Rattle.wt_proto.specs.declared.message.Body.{Body}
 use Rattle.wt_proto.specs.declared.message.Body.TheVariants.{GetS, GetX, PutS, PutX, DataS, DataX, Inv, InvAck, Wake, Arrive, Leave, Go}
 use Rattle.wt_proto.specs.declared.message.Outgoing.{Outgoing}
-use Rattle.dir1sw.specs.declared.home.DirAct.{DirAct}
 use Rattle.dir1sw.specs.declared.home.DirAct.TheVariants.{Done, Trap, Stray}
 use Rattle.dir1sw.specs.declared.home.HomeBlock.{HomeBlock}
 use Rattle.dir1sw.specs.declared.home.Place.{Place}
-use Rattle.dir1sw.specs.Table.{Row, quiet, answer_of, serve_of, request_of, put_s_of, put_x_of, with_wake, wake_after, grant_of, inv_ack_of, wake_of, arrive_of, with_state, with_memory, with_waiting}
+use Rattle.dir1sw.specs.Table.{Row, quiet, answer_of, serve_of, request_of, put_s_of, put_x_of, with_wake, wake_after, grant_of, inv_ack_of, wake_of, arrive_of, with_state, with_memory}
 
 -- A row that traps sends nothing, and its trap is about a block.
 abbrev IsSilent : ℕ → Row → Type 0

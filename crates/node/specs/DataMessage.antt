@@ -1,5 +1,5 @@
 -- DataS or DataX comes, with a copy of a block to read or to write. Own.
-use Rattle.std.specs.Prelude.{ℕ, ◌+◌, ◌==◌, ◌&&◌, Bool, true, false, not, [], ◌∷◌, List, Option, Some, None, option_map, unwrap_or, if◌then◌else◌}
+use Rattle.std.specs.Prelude.{ℕ, ◌+◌, ◌==◌, ◌&&◌, Bool, true, false, not, [], ◌∷◌, Option, Some, None, option_map, unwrap_or, if◌then◌else◌}
 use Rattle.wt_params.specs.declared.parts.MachineParts.{MachineParts}
 use Rattle.rv_exec.specs.declared.effect.Effect.{Effect}
 use Rattle.rv_exec.specs.declared.effect.Effect.TheVariants.{Load, Store}

@@ -1,5 +1,5 @@
 -- A message to a node's directory, and the trap that it may bring. Own, after Dir1SW.
-use Rattle.std.specs.Prelude.{ℕ, ◌+◌, ◌==◌, List, ◌++◌, map, Option, Some, if◌then◌else◌}
+use Rattle.std.specs.Prelude.{ℕ, ◌+◌, ◌==◌, List, ◌++◌, map, Some, if◌then◌else◌}
 use Rattle.wt_params.specs.declared.parts.MachineParts.{MachineParts}
 use Rattle.wt_params.specs.Machine.{home_of}
 use Rattle.wt_proto.specs.declared.directory.TrapPlan.{TrapPlan}

@@ -1,12 +1,12 @@
 -- The wind tunnel as a simulation: which nodes and messages are sound, and which events a node may handle. Own.
-use Rattle.std.specs.Prelude.{◌≡◌}
+use Rattle.std.specs.Prelude.{◌≡◌, Bool, false}
 use Rattle.wt_params.specs.declared.parts.MachineParts.{MachineParts}
 use Rattle.wt_params.specs.Machine.{IsMachine}
 use Rattle.wt_proto.specs.declared.key.Key.{Key}
 use Rattle.wt_proto.specs.declared.message.Msg.{Msg}
 use Rattle.wt_proto.specs.declared.message.Stamped.{Stamped}
 use Rattle.wt_proto.specs.Messages.{StampedFits}
-use Rattle.discrete_events.specs.Simulation.{Simulation, Event, Message}
+use Rattle.discrete_events.specs.Simulation.{Event, Message}
 use Rattle.discrete_events.specs.Laws.{IsDue, IsSimulation, IsConservative}
 use Rattle.node.specs.declared.state.NodeState.{NodeState}
 use Rattle.node.specs.React.{wind_tunnel}
@@ -38,3 +38,20 @@ pub record IsWindTunnel (machine : MachineParts) : Type 0 where
 
 abbrev pub MachinesAreSimulations : Type 0
 MachinesAreSimulations = (machine : MachineParts) → IsMachine machine → IsWindTunnel machine
+
+-- ---- a node of the program: its machine, its state, and whether memory was refused to it
+pub record NodeModel : Type 0 where
+  pub machine : MachineParts
+  pub state : NodeState
+  pub broken : Bool
+
+-- Nothing is known of the state of a broken node.
+abbrev pub IsSoundNode : MachineParts → NodeState → Bool → Type 0
+IsSoundNode machine state broken = broken ≡ false → IsNode machine state
+
+abbrev pub IsWhole : NodeModel → Type 0
+IsWhole node = node.broken ≡ false
+
+-- a node that isn't broken may handle an event under a key now
+abbrev pub MayHandle : NodeModel → Key → Event Msg → Type 0
+MayHandle node key event = IsWhole node → IsDueAt node.machine node.state key event

@@ -1,9 +1,9 @@
 -- One event of a node: its next step, or a message that comes to it. Own.
-use Rattle.std.specs.Prelude.{ℕ, ◌+◌, true, false, Bool, List, [], ◌∷◌, ◌++◌, length, map, Option, Some, None, if◌then◌else◌}
+use Rattle.std.specs.Prelude.{ℕ, ◌+◌, true, false, Bool, List, [], ◌∷◌, ◌++◌, length, map, Some}
 use Rattle.wt_params.specs.declared.parts.MachineParts.{MachineParts}
 use Rattle.wt_proto.specs.declared.key.Key.{Key}
 use Rattle.wt_proto.specs.declared.message.Body.{Body}
-use Rattle.wt_proto.specs.declared.message.Body.TheVariants.{GetS, GetX, PutS, PutX, DataS, DataX, Inv, InvAck, Wake, Arrive, Leave, Go}
+use Rattle.wt_proto.specs.declared.message.Body.TheVariants.{DataS, DataX, Inv, Arrive, Leave, Go}
 use Rattle.wt_proto.specs.declared.message.Msg.{Msg}
 use Rattle.wt_proto.specs.declared.message.Stamped.{Stamped}
 use Rattle.wt_proto.specs.Messages.{key_of}
@@ -80,8 +80,8 @@ abbrev pub ended : Key → What → List Stamped → Handled → NodeState
 ended key what sends handled = record (handled.node) {
   counters = record (handled.node.counters) { sent = handled.node.counters.sent + length handled.sends };
   log = logged handled.node.traced
-  (record { key = key; what = what; deed = handled.deed; trap = handled.trap; sends = sends })
-  handled.node.log;
+      (record { key = key; what = what; deed = handled.deed; trap = handled.trap; sends = sends })
+      handled.node.log;
 }
 
 abbrev pub sends_of : MachineParts → Handled → List Stamped

@@ -1,5 +1,5 @@
 -- What every event keeps of a node, so that nothing wraps and a waiting instruction can be done when its block comes. Own.
-use Rattle.std.specs.Prelude.{◌≡◌, ⊤, ℕ, ◌+◌, ◌*◌, ◌%◌, ◌^◌, ◌<◌, ◌≤◌, Bool, true, false, List, [], ◌∷◌, length, All, Option, Some, None}
+use Rattle.std.specs.Prelude.{◌≡◌, ⊤, ℕ, ◌+◌, ◌*◌, ◌%◌, ◌^◌, ◌<◌, ◌≤◌, Bool, true, false, List, [], ◌∷◌, length, All, Option, Some}
 use Rattle.wt_params.specs.declared.parts.MachineParts.{MachineParts}
 use Rattle.wt_params.specs.Machine.{IsMachine, shared_block}
 use Rattle.rv_decode.specs.declared.instr.CicoOp.{CicoOp}
@@ -143,3 +143,8 @@ pub record IsNode (machine : MachineParts) (node : NodeState) : Type 0 where
   pub directory : DirectoryFits machine node.number node.counters.messages node.directory
   pub barrier : BarrierFits machine node.barrier
   pub mode : ModeFits machine node node.mode
+
+-- a block that a processor waits for exists
+abbrev pub WaitsForABlock : MachineParts → Mode → Type 0
+WaitsForABlock machine (Waiting block exclusive) = block < machine.blocks
+WaitsForABlock machine _ = ⊤

@@ -2,14 +2,12 @@
 use Rattle.std.specs.Prelude.{ℕ, ◌+◌, ◌==◌, max, Bool, true, false, List, slice_index, slice_range, Option, Some, None}
 use Rattle.wt_params.specs.declared.parts.MachineParts.{MachineParts}
 use Rattle.wt_proto.specs.declared.key.Key.{Key}
-use Rattle.wt_proto.specs.declared.mode.Cause.{Cause}
 use Rattle.wt_proto.specs.declared.mode.Cause.TheVariants.{Exit}
 use Rattle.wt_proto.specs.declared.mode.Mode.{Mode}
-use Rattle.wt_proto.specs.declared.mode.Mode.TheVariants.{Running, Waiting, InBarrier, Stopped}
+use Rattle.wt_proto.specs.declared.mode.Mode.TheVariants.{Running, Stopped}
 use Rattle.rv_exec.specs.Registers.{register_set}
 use Rattle.priv_mem.specs.Memory.{little_endian}
 use Rattle.target_cache.specs.Cached.{Cached}
-use Rattle.wt_stats.specs.declared.counters.Counters.{Counters}
 use Rattle.discrete_events.specs.Simulation.{key_of_step}
 use Rattle.node.specs.declared.state.NodeState.{NodeState}
 

@@ -155,10 +155,7 @@ impl NodeState {
         ensures deed { result ≡ (resumed machine.now time block self.old (Some (Load op rd address))).deed }
     {
         let offset = offset(machine, address);
-        let number = self
-            .cache
-            .read(block, offset, load_width(op))
-            .unwrap_or(0);
+        let number = self.cache.read(block, offset, load_width(op)).unwrap_or(0);
         let ready = time + machine.costs().fill;
         self.load_into(rd, widen(op, number), address, ready)
     }

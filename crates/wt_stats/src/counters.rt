@@ -1,3 +1,21 @@
+/// The names of the counters, in the order in which they are shown.
+pub const COUNTER_NAMES: [&[u8]; 14] = [
+    b"steps",
+    b"messages",
+    b"done",
+    b"hits",
+    b"misses",
+    b"upgrades",
+    b"replaced",
+    b"checkins",
+    b"invs",
+    b"traps",
+    b"trap_cycles",
+    b"barriers",
+    b"stray",
+    b"sent",
+];
+
 /// What a node counts.
 #[derive(Clone, Copy, Debug, PartialEq, Eq, Default)]
 pub struct Counters {
@@ -5,7 +23,7 @@ pub struct Counters {
     pub steps: u64,
     /// Messages handled.
     pub messages: u64,
-    /// Instructions finished, an exit among them.
+    /// Instructions finished, an exit among them, and a barrier call once the barrier opens.
     pub done: u64,
     /// Shared loads and stores done in their own step.
     pub hits: u64,

@@ -1,8 +1,17 @@
-//! What nodes count, and what a simulation comes to.
+//! What the nodes of a simulation count, the sums over them, and what a simulation comes to.
+//!
+//! The counters' names and their order stand in [`COUNTER_NAMES`]; [`Totals::values`] has the numbers in that order.
 #![tactic(auto)]
 
 mod counters;
 mod head;
+mod numbers;
+mod sums;
 
-pub use counters::Counters;
+pub use counters::{COUNTER_NAMES, Counters};
 pub use head::{Head, Outcome};
+pub use numbers::Totals;
+pub use sums::totals;
+
+#[cfg(test)]
+mod tests;

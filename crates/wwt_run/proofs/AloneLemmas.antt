@@ -14,8 +14,8 @@ use Rattle.discrete_events.proofs.Queues.{kept_of_nothing}
 use Rattle.discrete_events.proofs.SerialRun.{serial-zero, serial-suc, serial_append, serial_rests}
 use Rattle.node.specs.NodeState.{NodeState, events_of}
 use Rattle.node.specs.Event.{Body, next_key, step_time, step_in, react, wind_tunnel}
-use Rattle.wwt_run.specs.declared.head.Outcome.{Outcome}
-use Rattle.wwt_run.specs.declared.head.Outcome.TheVariants.{Finished, Budget, EventLimit, Stalled}
+use Rattle.wt_stats.specs.declared.head.Outcome.{Outcome}
+use Rattle.wt_stats.specs.declared.head.Outcome.TheVariants.{Finished, Budget, EventLimit, Stalled}
 use Rattle.wwt_run.specs.World.{World, alone, is_running}
 use Rattle.wwt_run.specs.Outcome.{head_of, outcome_of, is_stopped, last_time_of}
 use Rattle.wwt_run.specs.Alone.{world_of, has_step, due_in, kept_end_after, quanta_after, outcome_alone, ending_of}

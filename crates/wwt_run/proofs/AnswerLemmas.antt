@@ -6,8 +6,8 @@ use Rattle.wwt_case.specs.declared.job.Job.TheVariants.{Check, Dis, Flat}
 use Rattle.wwt_case.specs.declared.refusal.Refusal.{Refusal}
 use Rattle.wwt_case.specs.declared.refusal.Refusal.TheVariants as refusals
 use Rattle.node.specs.NodeState.{NodeState}
-use Rattle.wwt_run.specs.declared.head.Outcome.{Outcome}
-use Rattle.wwt_run.specs.declared.head.Outcome.TheVariants as outcomes
+use Rattle.wt_stats.specs.declared.head.Outcome.{Outcome}
+use Rattle.wt_stats.specs.declared.head.Outcome.TheVariants as outcomes
 use Rattle.wwt_run.specs.declared.status.Status.{Status}
 use Rattle.wwt_run.specs.declared.status.Status.TheVariants.{Done, NodeFault, ReadFault, NoMemory}
 use Rattle.wwt_run.specs.Status.{status_of_refusal, status_after_of}

@@ -5,7 +5,7 @@ use Rattle.wt_params.specs.Machine.{flat_machine}
 use Rattle.discrete_events.specs.Serial.{final}
 use Rattle.node.specs.NodeState.{NodeState, start_node}
 use Rattle.node.specs.Event.{wind_tunnel}
-use Rattle.wwt_run.specs.declared.head.Head.{Head}
+use Rattle.wt_stats.specs.declared.head.Head.{Head}
 use Rattle.wwt_run.specs.declared.status.Status.{Status}
 use Rattle.wwt_run.specs.World.{alone}
 use Rattle.wwt_run.specs.Outcome.{head_of, outcome_of}

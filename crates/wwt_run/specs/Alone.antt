@@ -7,8 +7,8 @@ use Rattle.wt_proto.specs.declared.mode.Mode.TheVariants.{Running, Stopped}
 use Rattle.discrete_events.specs.World.{is_spent, counts_below}
 use Rattle.node.specs.NodeState.{NodeState}
 use Rattle.node.specs.Event.{step_time, wind_tunnel}
-use Rattle.wwt_run.specs.declared.head.Outcome.{Outcome}
-use Rattle.wwt_run.specs.declared.head.Outcome.TheVariants.{Finished, Budget, EventLimit, Stalled}
+use Rattle.wt_stats.specs.declared.head.Outcome.{Outcome}
+use Rattle.wt_stats.specs.declared.head.Outcome.TheVariants.{Finished, Budget, EventLimit, Stalled}
 use Rattle.wwt_run.specs.World.{World, is_running}
 
 -- the world of one node, with nothing under way

@@ -9,9 +9,9 @@ use Rattle.wt_proto.specs.declared.mode.Mode.TheVariants.{Stopped}
 use Rattle.discrete_events.specs.World.{is_spent}
 use Rattle.node.specs.NodeState.{NodeState, events_of}
 use Rattle.node.specs.Event.{wind_tunnel}
-use Rattle.wwt_run.specs.declared.head.Outcome.{Outcome}
-use Rattle.wwt_run.specs.declared.head.Outcome.TheVariants.{Finished, Budget, EventLimit, Stalled}
-use Rattle.wwt_run.specs.declared.head.Head.{Head}
+use Rattle.wt_stats.specs.declared.head.Outcome.{Outcome}
+use Rattle.wt_stats.specs.declared.head.Outcome.TheVariants.{Finished, Budget, EventLimit, Stalled}
+use Rattle.wt_stats.specs.declared.head.Head.{Head}
 use Rattle.wwt_run.specs.World.{World, is_running}
 
 abbrev pub is_stopped : Mode → Bool

@@ -6,8 +6,8 @@ use Rattle.wt_proto.specs.declared.mode.Cause.TheVariants.{Exit}
 use Rattle.wt_proto.specs.declared.mode.Mode.{Mode}
 use Rattle.wt_proto.specs.declared.mode.Mode.TheVariants.{Stopped}
 use Rattle.node.specs.NodeState.{NodeState}
-use Rattle.wwt_run.specs.declared.head.Outcome.{Outcome}
-use Rattle.wwt_run.specs.declared.head.Outcome.TheVariants as outcomes
+use Rattle.wt_stats.specs.declared.head.Outcome.{Outcome}
+use Rattle.wt_stats.specs.declared.head.Outcome.TheVariants as outcomes
 use Rattle.wwt_case.specs.declared.refusal.Refusal.{Refusal}
 use Rattle.wwt_case.specs.declared.refusal.Refusal.TheVariants as refusals
 use Rattle.wwt_run.specs.declared.status.Status.{Status}

@@ -6,7 +6,6 @@ ghost use Rattle.wwt_run.specs.Jobs.{status_of_run, output_of_run};
 ghost use Rattle.wwt_run.specs.Report.{joined};
 ghost use Rattle.wwt_run.specs.Status.{status_after_of};
 
-use crate::head::Outcome;
 use crate::report::report_alone;
 use crate::simulate::run_alone;
 use crate::status::Status;
@@ -15,6 +14,7 @@ use std::alloc::Global;
 use wt_outside::{Failed, Sink};
 use wt_params::{Machine, NoMemory};
 use wt_proto::{Cause, Mode};
+use wt_stats::Outcome;
 use wt_text::Line;
 use wwt_case::Refusal;
 

@@ -2,14 +2,12 @@
 #![tactic(auto)]
 
 mod flat;
-mod head;
 mod perform;
 mod refuse;
 mod report;
 mod simulate;
 mod status;
 mod top;
-mod totals;
 
 pub use refuse::out_of_memory;
 pub use status::Status;

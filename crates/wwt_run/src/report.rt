@@ -1,15 +1,15 @@
-ghost use Rattle.std.specs.Prelude.{◌≡◌, ◌<◌, [], ◌∷◌, ◌++◌, length, codes, decimal, IfOk, OnOk};
+ghost use Rattle.std.specs.Prelude.{◌≡◌, ◌<◌, [], ◌∷◌, ◌++◌, length, codes, decimal, map, IfOk, OnOk};
 ghost use Rattle.node.specs.Event.{step_time};
 ghost use Rattle.node.specs.NodeState.{WaitsForABlock};
 ghost use Rattle.wt_text.specs.Text.{line_end};
-ghost use Rattle.wwt_run.specs.Report.{outcome_text_of, cause_text, state_text, processor_text, counts_text, event_counts_of, cache_counts_of, message_counts_of, output_text, node_line_of, count_line_of, out_line_of, total_line_of, report_lines};
+ghost use Rattle.wwt_run.specs.Report.{outcome_text_of, cause_text, state_text, processor_text, counts_text, totals_text, output_text, node_line_of, count_line_of, out_line_of, total_line_of, report_lines};
 
-use crate::head::{Head, Outcome};
-use crate::totals::{Totals, totals_of_one};
-use node::{Counters, Node};
+use node::Node;
 use std::alloc::Global;
+use std::slice;
 use wt_params::{Machine, NoMemory};
 use wt_proto::{Cause, Mode};
+use wt_stats::{COUNTER_NAMES, Counters, Head, Outcome, totals};
 use wt_text::Line;
 
 /// The lines of the report of a machine of one node.
@@ -130,7 +130,7 @@ fn count_line(alloc: Global, place: u32, node: &Node) -> Result<Line, NoMemory>
 {
     let mut line = Line::new(alloc, b"count ")?;
     line.number(place as u128)?;
-    counts(&mut line, &totals_of_one(node.counters()))?;
+    sums(&mut line, slice::from_ref(node.counters()))?;
     line.end()?;
     Ok(line)
 }
@@ -140,47 +140,26 @@ fn total_line(alloc: Global, node: &Node) -> Result<Line, NoMemory>
     ensures { IfOk result (λ line. line ≡ total_line_of (node.now.state ∷ [])) }
 {
     let mut line = Line::new(alloc, b"total")?;
-    counts(&mut line, &totals_of_one(node.counters()))?;
+    sums(&mut line, slice::from_ref(node.counters()))?;
     line.end()?;
     Ok(line)
 }
 
-/// Adds the counters in their order, each as its name and its number.
-fn counts(line: &mut Line, counts: &Totals) -> Result<(), NoMemory>
-    ensures { OnOk result (line.new ≡ line.old ++ counts_text counts.now) }
+/// Adds the sums of these counters, each as its name and its number.
+fn sums(line: &mut Line, list: &[Counters]) -> Result<(), NoMemory>
+    ensures { OnOk result (line.new ≡ line.old ++ totals_text list.now) }
 {
-    event_counts(line, counts)?;
-    cache_counts(line, counts)?;
-    message_counts(line, counts)
+    counts(line, &COUNTER_NAMES, &totals(list).values())
 }
 
-fn event_counts(line: &mut Line, counts: &Totals) -> Result<(), NoMemory>
-    ensures { OnOk result (line.new ≡ line.old ++ event_counts_of counts.now) }
+/// Adds counters in their order, each as its name and its number.
+fn counts(line: &mut Line, names: &[&[u8]], values: &[u128]) -> Result<(), NoMemory>
+    ensures { OnOk result (line.new ≡ line.old ++ counts_text (map (λ name. name.now) names.now) values.now) }
 {
-    line.counter(b"steps", counts.steps)?;
-    line.counter(b"messages", counts.messages)?;
-    line.counter(b"done", counts.done)
-}
-
-fn cache_counts(line: &mut Line, counts: &Totals) -> Result<(), NoMemory>
-    ensures { OnOk result (line.new ≡ line.old ++ cache_counts_of counts.now) }
-{
-    line.counter(b"hits", counts.hits)?;
-    line.counter(b"misses", counts.misses)?;
-    line.counter(b"upgrades", counts.upgrades)?;
-    line.counter(b"replaced", counts.replaced)?;
-    line.counter(b"checkins", counts.checkins)?;
-    line.counter(b"invs", counts.invs)
-}
-
-fn message_counts(line: &mut Line, counts: &Totals) -> Result<(), NoMemory>
-    ensures { OnOk result (line.new ≡ line.old ++ message_counts_of counts.now) }
-{
-    line.counter(b"traps", counts.traps)?;
-    line.counter(b"trap_cycles", counts.trap_cycles)?;
-    line.counter(b"barriers", counts.barriers)?;
-    line.counter(b"stray", counts.stray)?;
-    line.counter(b"sent", counts.sent)
+    for (name, value) in names.iter().zip(values) {
+        line.counter(name, *value)?;
+    }
+    Ok(())
 }
 
 /// The bytes that the program of the node at a place has put out.

@@ -6,10 +6,10 @@ ghost use Rattle.wwt_run.specs.World.{alone};
 ghost use Rattle.wwt_run.specs.Outcome.{head_of, last_time_of};
 ghost use Rattle.wwt_run.specs.Alone.{due_in, world_of, kept_end_after, quanta_after, outcome_alone};
 
-use crate::head::{Head, Outcome};
 use node::Node;
 use wt_params::{Machine, NoMemory};
 use wt_proto::Mode;
+use wt_stats::{Head, Outcome};
 
 /// The quanta of a run so far.
 #[derive(Clone, Copy)]

@@ -1,4 +1,3 @@
-use Rattle.std.proofs.Common.{ap, ◌∙◌, sym}
 use Rattle.rv_exec.specs.Widths.{load_width_of}
 use Rattle.node.proofs.Memory.{load_outside}
 use Rattle.node.proofs.state.NodeState.load.Goals as goal
