@@ -90,6 +90,8 @@ asks_when names store all more weaker asks = record {
   whole = λ files told through. asks.whole files told (weaker through);
 }
 
--- a status that isn't want of memory
-pub through_by_status : {S : Type 0} (store : Store S) (refusal : Refusal) (status : Status) → status ≡ status_of_refusal refusal → IsSound store × (Some status ≢ Some NoMemory) → IsThrough {A = Status} store (Err refusal)
-through_by_status store refusal status is through = (through.0, λ memory. through.1 (ap Some (is ∙ ap status_of_refusal memory)))
+-- the same of a refusal, said of its status
+pub asks_by_status : {S : Type 0} (names : Files → List (List ℕ)) (store : Store S) (refusal : Refusal) (status : Status) → status ≡ status_of_refusal refusal → Asks names store (IsThrough {A = Status} store (Err refusal)) → Asks names store (IsSound store × (Some status ≢ Some NoMemory))
+asks_by_status names store refusal status is =
+    asks_when names store (IsThrough {A = Status} store (Err refusal)) (IsSound store × (Some status ≢ Some NoMemory))
+    (λ through. (through.0, λ memory. through.1 (ap Some (is ∙ ap status_of_refusal memory))))
