@@ -6,5 +6,4 @@ ghost use Rattle.wt_outside.specs.Asked.{AreAsked, AreRemembered};
 pub fn reads_keep_their_order()
     ensures { (faults : List (List ℕ) → ℕ) (old names new : List (List ℕ))
         → AreAsked faults (AreRemembered (λ kept. kept)) old names new → new ≡ old ++ names }
-{
-}
+{}

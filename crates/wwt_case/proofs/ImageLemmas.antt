@@ -1,5 +1,5 @@
 -- The images of a description, one after another.
-use Rattle.std.proofs.Common.{◌≡◌, ℕ, ◌+◌, ◌≤◌, ◌-◌, Bool, length, drop, take, get_or, arith, List, [], ◌∷◌, ◌++◌, Option, Result, Ok, Err, refl, sym, ap, subst, ◌∙◌}
+use Rattle.std.proofs.Common.{◌≡◌, ℕ, ◌+◌, ◌≤◌, ◌-◌, Bool, length, drop, take, get_or, arith, List, [], ◌∷◌, ◌++◌, Option, Result, Ok, Err, refl, sym, ap, subst}
 use Rattle.std.proofs.lemmas.List.{take_all, length-drop}
 use Rattle.elf_image.specs.declared.image.Image.{Image}
 use Rattle.machine_json.specs.declared.description.ImageSpec.{ImageSpec}

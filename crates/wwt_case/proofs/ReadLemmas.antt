@@ -12,7 +12,7 @@ use Rattle.wwt_case.specs.declared.refusal.Refusal.{Refusal}
 use Rattle.wwt_case.specs.declared.refusal.Refusal.TheVariants.{Read, Memory}
 use Rattle.wwt_case.specs.declared.refusal.FileKind.{FileKind}
 use Rattle.wwt_case.specs.Files.{file_of, bytes_of, and_then, names_then}
-use Rattle.wwt_case.specs.Reading.{Answers, Store, IsSound, Asks, IsThrough, Reads}
+use Rattle.wwt_case.specs.Reading.{Answers, Store, Asks, IsThrough, Reads}
 
 missing_file : (name : List ℕ) (kind : FileKind) (found : Option (List ℕ)) → IsNone found → bytes_of name kind found ≡ Err (Read name)
 missing_file name kind None none = refl
@@ -66,9 +66,11 @@ module _ {S A B : Type 0} (wanted : Files → Result A Refusal) (names : Files �
         asked = first.once.asked ++ second.once.asked;
         are_asked = asked_then faults asked s0 s1 s2 first.once.asked second.once.asked first.once.are_asked (first.steady (λ name e. cc)) second.once.are_asked;
         part = λ given told.
-            let rest = second.once.part given told in
-            (rest.0, ap₂ (λ (x y : List (List ℕ)). x ++ y) (sym (first.once.whole given told tt)) (after given (first.found given told) ∙ rest.1)
-            ∙ sym (append_assoc first.once.asked second.once.asked rest.0));
+            let rest = second.once.part given told in (
+              rest.0,
+              ap₂ (λ (x y : List (List ℕ)). x ++ y) (sym (first.once.whole given told tt)) (after given (first.found given told) ∙ rest.1)
+                  ∙ sym (append_assoc first.once.asked second.once.asked rest.0),
+            );
         whole = λ given told through.
             ap₂ (λ (x y : List (List ℕ)). x ++ y) (first.once.whole given told tt)
             (second.once.whole given told (through_later files faults asked s0 s1 s2 result first.later through) ∙ sym (after given (first.found given told)));

@@ -1,4 +1,3 @@
-use Rattle.std.proofs.Common.{◌≡◌, arith}
 use Rattle.wwt_case.proofs.ImageLemmas.{next_image, refused_image, image_unkept}
 use Rattle.wwt_case.proofs.images.+read_images.Goals as goal
 

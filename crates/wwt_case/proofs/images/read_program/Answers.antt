@@ -1,5 +1,4 @@
-use Rattle.std.proofs.Common.{◌≡◌, ◌∷◌, [], Ok, Err, subst}
-use Rattle.wwt_case.specs.declared.refusal.FileKind.TheVariants as kinds
+use Rattle.std.proofs.Common.{◌∷◌, [], Err, subst}
 use Rattle.wwt_case.specs.Programs.{program_of, file_image}
 use Rattle.wwt_case.specs.Reading.{Reads}
 use Rattle.wwt_case.proofs.ReadLemmas.{reads_and, reads_ended}
