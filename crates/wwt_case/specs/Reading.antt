@@ -23,21 +23,21 @@ pub record Store (S : Type 0) : Type 1 where
 abbrev pub IsSound : {S : Type 0} → Store S → Type 0
 IsSound store = Stood (store.faults store.before) (store.faults store.now)
 
--- The names that the store was asked for, each once, in this order: of told files a first part of these, and where so
--- said, all of them.
+-- The names that the store was asked for, in their order, and nothing else: of told files a first part of these names,
+-- and where so said, all of them.
 pub record Asks {S : Type 0} (names : Files → List (List ℕ)) (store : Store S) (all : Type 0) : Type 0 where
   pub asked : List (List ℕ)
   pub are_asked : AreAsked store.faults store.asked store.before asked store.now
   pub part : (files : Files) → store.files ≡ Some files → (rest : List (List ℕ)) × (names files ≡ asked ++ rest)
   pub whole : (files : Files) → store.files ≡ Some files → all → asked ≡ names files
 
--- a call has come to its end: to a value, or to a refusal that is no fault and no want of memory
+-- a call came to its end: to a value, or where no fault rose to a refusal other than want of memory
 abbrev pub IsThrough : {S A : Type 0} → Store S → Result A Refusal → Type 0
 IsThrough store (Ok value) = ⊤
 IsThrough store (Err refusal) = IsSound store × (refusal ≢ Memory)
 
 -- What is answered is what the told files call for, or want of memory. A file can't be read only where the told files
--- lack its name, or where a fault rose. Each name is read once, in order, and none after a refusal.
+-- lack its name, or where a fault rose. Each name that is listed is read once, in order, and none after a refusal.
 pub record Reads {S A : Type 0} (wanted : Files → Result A Refusal) (names : Files → List (List ℕ)) (store : Store S) (result : Result A Refusal) : Type 0 where
   pub found : (files : Files) → store.files ≡ Some files → IfOk result (λ value. wanted files ≡ Ok value)
   pub refused : (files : Files) → store.files ≡ Some files → IsSound store → IfErr result (λ refusal. (refusal ≡ Memory) ⊎ (wanted files ≡ Err refusal))

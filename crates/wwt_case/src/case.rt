@@ -19,8 +19,8 @@ use wt_outside::Store;
 use wt_params::Machine;
 use wwt_words::{Command, WordFault, read_words};
 
-/// The job that the words and the files of the store call for, or why there is none. Files are read in order, each
-/// once, and none after a refusal.
+/// The job that the words and the files of the store call for, or why there is none. Each name that is listed for it is
+/// read once, in order, and none after a refusal.
 pub fn prepare<S: Store>(alloc: Global, words: &[String], store: &mut S) -> Result<Job, Refusal>
     ensures read { Reads (case_of (map string_bytes words.now)) (names_of (map string_bytes words.now)) (record {
       files = S.files store.old;

@@ -49,8 +49,8 @@ pub fn wwt_plain<S: Store, K: Sink, E: Sink>(
     ensures usage { result ≡ Some Status.Usage → is_usage_of (command_of (map string_bytes words.now)) ≡ true }
     ensures untouched { is_usage_of (command_of (map string_bytes words.now)) ≡ true → (store.new ≡ store.old) × (out.new ≡ out.old) }
 
-    // Each name is read once, in order, and none after a refusal: all of told files where no fault of the store rose and
-    // memory wasn't wanted, else a first part of them.
+    // Each name that the case lists is read once, in order, and none after a refusal: all of them where no fault of the
+    // store rose and memory wasn't wanted, else a first part of them.
     ensures once { Asks (names_of (map string_bytes words.now)) (record {
       files = S.files store.old;
       faults = S.faults;
