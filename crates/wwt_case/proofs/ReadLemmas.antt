@@ -23,11 +23,11 @@ missing_told name kind told files is missing =
     missing_file name kind (get files name) (subst (λ (t : Option Files). IsMissing t name) is missing)
 
 module _ {S : Type 0} where
-  -- one name was asked for
-  pub asks_one : (name : List ℕ) (store : Store S) (all : Type 0) → store.asked store.before name store.now → Asks (λ _. name ∷ []) store all
-  asks_one name store all asked = record {
+  -- one name was asked for, as it was spelt
+  pub asks_one : (spelt name : List ℕ) (store : Store S) (all : Type 0) → spelt ≡ name → store.asked store.before spelt store.now → Asks (λ _. name ∷ []) store all
+  asks_one spelt name store all same asked = record {
     asked = name ∷ [];
-    are_asked = asked_once store.faults store.asked store.before name store.now asked;
+    are_asked = asked_once store.faults store.asked store.before name store.now (subst (λ (n : List ℕ). store.asked store.before n store.now) same asked);
     part = λ files told. ([], refl);
     whole = λ files told through. refl;
   }
@@ -41,7 +41,7 @@ module _ {S : Type 0} where
       | inr missing ↦ inr (missing_told name kind store.files files told missing)
     ];
     named = λ files other told same. (0, omega arith, cc);
-    once = asks_one name store _ asked;
+    once = asks_one name name store _ refl asked;
     unread = λ other same. let is : name ≡ other = cc in subst (λ (n : List ℕ). Rose (store.faults store.before) (store.faults store.now) ⊎ IsMissing store.files n) is failed;
     steady = λ other. absurd (other name refl);
     later = later;
