@@ -1,4 +1,4 @@
-ghost use Rattle.std.specs.Prelude.{◌≡◌, ◌≢◌, ℕ, ◌<◌, ◌⊎◌, List, [], Some, Ok, Err, map, string_bytes, true, Contains, IsSome, IfOk, IfErr, OnOk, IsErrOf};
+ghost use Rattle.std.specs.Prelude.{◌≡◌, ◌≢◌, ℕ, ◌<◌, ◌⊎◌, List, [], Some, Ok, Err, map, string_bytes, true, Contains, IsSome, IfOk, OnOk, IsErrOf};
 ghost use Rattle.wt_outside.specs.Faults.{Rose, Stood};
 ghost use Rattle.wt_outside.specs.Files.{Files, IsMissing};
 ghost use Rattle.wt_outside.specs.Growth.{Grows, GrowsByPrefix};
