@@ -1,3 +1,4 @@
 mod Found
+pub mod AskedLemmas
 pub mod FaultLemmas
 pub mod GrowthLemmas

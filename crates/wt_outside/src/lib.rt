@@ -4,11 +4,13 @@
 //! says that the outside failed comes only where that count rose, so code over them can't make one up.
 #![tactic(auto)]
 
+mod laws;
 mod mem_sink;
 mod mem_store;
 mod sink;
 mod store;
 
+pub use laws::reads_keep_their_order;
 pub use mem_sink::MemSink;
 pub use mem_store::MemStore;
 pub use sink::{Failed, Sink};

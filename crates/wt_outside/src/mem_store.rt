@@ -2,7 +2,7 @@ ghost use Rattle.std.specs.Prelude.{◌≡◌, ◌≤◌, ◌⊎◌, [], Some, I
 ghost use Rattle.std.specs.Option.{option_map};
 ghost use Rattle.std.specs.FinMap.{get};
 ghost use Rattle.wt_outside.specs.Answers.{UnlessFailed};
-ghost use Rattle.wt_outside.specs.Faults.{Rose, Stood, one_more};
+ghost use Rattle.wt_outside.specs.Faults.{Rose, Stood};
 ghost use Rattle.wt_outside.specs.Files.{IsMissing, HoldsThere, IsLonger};
 ghost use Rattle.wt_outside.specs.MemFiles.{AreNamedApart, IsGiven, files_of, given, after_read};
 
@@ -63,7 +63,7 @@ impl Store for MemStore {
 
     ghost faults = { λ s. s.faults };
 
-    ghost reads = { λ s. s.reads };
+    ghost asked = { λ old name new. new ≡ after_read old };
 
     fn read(&mut self, name: &str, limit: u64) -> Result<Vec<u8>, StoreFail>
         // Which read fails, and what the others give.
@@ -77,7 +77,6 @@ impl Store for MemStore {
         ensures missing { IsMissing (Some self.old.files) name.now → Stood self.old.faults self.new.faults → IsErrOf result StoreFail.Failed }
         ensures too_long { IsErrOf result StoreFail.TooLong → Stood self.old.faults self.new.faults × IsLonger (Some self.old.files) name.now limit }
         ensures longer { IsLonger (Some self.old.files) name.now limit → Stood self.old.faults self.new.faults → IsErrOf result StoreFail.TooLong }
-        ensures asked { self.new.reads ≡ one_more self.old.reads }
         ensures steady { UnlessFailed result (self.new.faults ≡ self.old.faults) }
         ensures later { self.old.faults ≤ self.new.faults }
     {

@@ -1,4 +1,4 @@
-ghost use Rattle.std.specs.Prelude.{◌≡◌, ℕ, ◌≤◌, ◌⊎◌, Option, IfOk, IsSome, IsErrOf, vec_len};
+ghost use Rattle.std.specs.Prelude.{◌≡◌, ℕ, ◌≤◌, ◌⊎◌, List, Option, IfOk, IsSome, IsErrOf, vec_len};
 ghost use Rattle.wt_outside.specs.Faults.{Rose, Stood};
 ghost use Rattle.wt_outside.specs.Files.{Files, IsMissing, HoldsThere, IsLonger};
 
@@ -21,7 +21,6 @@ pub enum StoreFail {
 /// Files by name, each read whole.
 pub trait Store {
     ghost use Rattle.wt_outside.specs.Answers.{UnlessFailed};
-    ghost use Rattle.wt_outside.specs.Faults.{one_more};
 
     /// The files, by the bytes of their names. None where the store doesn't tell.
     ghost files: { Self → Option Files };
@@ -29,8 +28,9 @@ pub trait Store {
     /// How often reading has failed. It never falls, and stands still at 2^64 - 1.
     ghost faults: { Self → ℕ };
 
-    /// How often a read was asked for. It stands still at 2^64 - 1.
-    ghost reads: { Self → ℕ };
+    /// What a read of a name makes of the store, as far as the store remembers its reads: one that counts them has one
+    /// more, one that keeps their names has this one at the end. Code over any store can't come to it but by a read.
+    ghost asked: { Self → List ℕ → Self → Type 0 };
 
     /// All bytes of a file, where there are at most `limit`. The name `-` is standard input.
     fn read(&mut self, name: &str, limit: u64) -> Result<Vec<u8>, StoreFail>
@@ -48,8 +48,8 @@ pub trait Store {
         ensures too_long { IsErrOf result StoreFail.TooLong → IsSome (files self.old) → Stood (faults self.old) (faults self.new) × IsLonger (files self.old) name.now limit }
         ensures longer { IsLonger (files self.old) name.now limit → Stood (faults self.old) (faults self.new) → IsErrOf result StoreFail.TooLong ⊎ IsErrOf result StoreFail.NoMemory }
 
-        // One more read was asked for.
-        ensures asked { reads self.new ≡ one_more (reads self.old) }
+        // This name was asked for.
+        ensures asked { asked self.old name.now self.new }
 
         // Every other answer leaves the count as it was.
         ensures steady { UnlessFailed result (faults self.new ≡ faults self.old) }

@@ -1,6 +1,6 @@
 ghost use Rattle.std.specs.Prelude.{◌≡◌, ℕ, ◌+◌, ◌<◌, ◌≤◌, None, length, IfOk, IfSome, IsErrOf, vec_len};
 ghost use Rattle.wt_outside.specs.Answers.{UnlessFailed};
-ghost use Rattle.wt_outside.specs.Faults.{Rose};
+ghost use Rattle.wt_outside.specs.Faults.{Rose, one_more};
 ghost use Rattle.wt_real.specs.Takes.{TakesAtMost};
 
 use std::alloc::Global;
@@ -12,7 +12,7 @@ use wt_outside::{Store, StoreFail};
 /// How many bytes are asked for at once.
 const CHUNK: u64 = 4096;
 
-/// The host's files by their paths, and its standard input by the name `-`.
+/// The host's files by their paths, and its standard input by the name `-`. It counts its reads.
 #[derive(Drop)]
 pub struct FileStore<R: Drop> {
     rt: R,
@@ -23,8 +23,7 @@ pub struct FileStore<R: Drop> {
 impl<R: Files + Input + AllocGlobal + Clone + Drop> FileStore<R> {
     /// The files that this runtime reaches.
     pub fn new(rt: R) -> FileStore<R>
-        ensures faults { ⟦<FileStore<R> as Store>⟧.faults result ≡ 0 }
-        ensures reads { ⟦<FileStore<R> as Store>⟧.reads result ≡ 0 }
+        ensures { ⟦<FileStore<R> as Store>⟧.faults result ≡ 0 }
     {
         FileStore {
             rt,
@@ -39,7 +38,7 @@ impl<R: Files + Input + AllocGlobal + Clone + Drop> Store for FileStore<R> {
 
     ghost faults = { λ s. s.faults };
 
-    ghost reads = { λ s. s.reads };
+    ghost asked = { λ old name new. new.reads ≡ one_more old.reads };
 
     fn read(&mut self, name: &str, limit: u64) -> Result<Vec<u8>, StoreFail> {
         let alloc = self.rt.alloc();

@@ -20,41 +20,41 @@ use Rattle.wwt_case.specs.Reading.{Answers, Store, Reads}
 use Rattle.wwt_case.proofs.ReadLemmas.{reads_then, reads_stopped}
 
 -- the images of a description, from none on
-pub all_images : (description : Description) (found : List Image) (entries : List ImageSpec) (store : Store) (result : Result (List Image) Refusal) → found ≡ [] → entries ≡ description.images → Reads (images_from found 0 entries) (names_from 0 entries) store result → Reads (images_from [] 0 description.images) (names_from 0 description.images) store result
+pub all_images : {S : Type 0} (description : Description) (found : List Image) (entries : List ImageSpec) (store : Store S) (result : Result (List Image) Refusal) → found ≡ [] → entries ≡ description.images → Reads (images_from found 0 entries) (names_from 0 entries) store result → Reads (images_from [] 0 description.images) (names_from 0 description.images) store result
 all_images description found entries store result none all read =
     subst (λ (f : List Image). Reads (images_from f 0 description.images) (names_from 0 description.images) store result) none
     (subst (λ (e : List ImageSpec). Reads (images_from found 0 e) (names_from 0 e) store result) all read)
 
 -- a description, and then its machine
-pub check_done : (name : List ℕ) (description : Description) (files after : Option Files) (f0 f1 f2 r0 r1 r2 : ℕ) (result : Result Job Refusal) → after ≡ files
-    → Reads (description_case name) (λ _. name ∷ []) (record { files = files; faults_before = f0; faults_now = f1; reads_before = r0; reads_now = r1 }) (Ok description)
-    → Reads (machine_case description) (names_from 0 description.images) (record { files = after; faults_before = f1; faults_now = f2; reads_before = r1; reads_now = r2 }) result
-    → Reads (check_case name) (check_names name) (record { files = files; faults_before = f0; faults_now = f2; reads_before = r0; reads_now = r2 }) result
-check_done name description files after f0 f1 f2 r0 r1 r2 result same first second =
-    reads_then (description_case name) (λ _. name ∷ []) machine_case (λ (d : Description) given. names_from 0 d.images given) files f0 f1 f2 r0 r1 r2 description result
-    first (subst (λ (t : Option Files). Reads (machine_case description) (names_from 0 description.images) (record { files = t; faults_before = f1; faults_now = f2; reads_before = r1; reads_now = r2 }) result) same second)
+pub check_done : {S : Type 0} (name : List ℕ) (description : Description) (files after : Option Files) (faults : S → ℕ) (asked : S → List ℕ → S → Type 0) (s0 s1 s2 : S) (result : Result Job Refusal) → after ≡ files
+    → Reads (description_case name) (λ _. name ∷ []) (record { files = files; faults = faults; asked = asked; before = s0; now = s1 }) (Ok description)
+    → Reads (machine_case description) (names_from 0 description.images) (record { files = after; faults = faults; asked = asked; before = s1; now = s2 }) result
+    → Reads (check_case name) (check_names name) (record { files = files; faults = faults; asked = asked; before = s0; now = s2 }) result
+check_done name description files after faults asked s0 s1 s2 result same first second =
+    reads_then (description_case name) (λ _. name ∷ []) machine_case (λ (d : Description) given. names_from 0 d.images given) files faults asked s0 s1 s2 description result
+    first (subst (λ (t : Option Files). Reads (machine_case description) (names_from 0 description.images) (record { files = t; faults = faults; asked = asked; before = s1; now = s2 }) result) same second)
 
-pub check_stopped : (name : List ℕ) (store : Store) (refusal : Refusal) → Reads (description_case name) (λ _. name ∷ []) store (Err refusal) → Reads (check_case name) (check_names name) store (Err refusal)
+pub check_stopped : {S : Type 0} (name : List ℕ) (store : Store S) (refusal : Refusal) → Reads (description_case name) (λ _. name ∷ []) store (Err refusal) → Reads (check_case name) (check_names name) store (Err refusal)
 check_stopped name store refusal first =
     reads_stopped (description_case name) (λ _. name ∷ []) machine_case (λ (d : Description) given. names_from 0 d.images given) store refusal first
 
 -- the commands
-pub of_check : (command : Command) (machine name : List ℕ) (store : Store) (result : Result Job Refusal) → command ≡ commands.Check machine → name ≡ machine → Reads (check_case name) (check_names name) store result → Reads (command_case (Some command)) (command_names (Some command)) store result
+pub of_check : {S : Type 0} (command : Command) (machine name : List ℕ) (store : Store S) (result : Result Job Refusal) → command ≡ commands.Check machine → name ≡ machine → Reads (check_case name) (check_names name) store result → Reads (command_case (Some command)) (command_names (Some command)) store result
 of_check command machine name store result is same read =
     subst (λ (c : Command). Reads (command_case (Some c)) (command_names (Some c)) store result) (sym is)
     (subst (λ (n : List ℕ). Reads (check_case n) (check_names n) store result) same read)
 
-pub of_dis : (command : Command) (image name : List ℕ) (store : Store) (result : Result Job Refusal) → command ≡ commands.Dis image → name ≡ image → Reads (dis_case name) (λ _. name ∷ []) store result → Reads (command_case (Some command)) (command_names (Some command)) store result
+pub of_dis : {S : Type 0} (command : Command) (image name : List ℕ) (store : Store S) (result : Result Job Refusal) → command ≡ commands.Dis image → name ≡ image → Reads (dis_case name) (λ _. name ∷ []) store result → Reads (command_case (Some command)) (command_names (Some command)) store result
 of_dis command image name store result is same read =
     subst (λ (c : Command). Reads (command_case (Some c)) (command_names (Some c)) store result) (sym is)
     (subst (λ (n : List ℕ). Reads (dis_case n) (λ _. n ∷ []) store result) same read)
 
-pub of_flat : (command : Command) (store : Store) (result : Result Job Refusal) → command ≡ commands.Flat → Reads flat_case (λ _. input_name ∷ []) store result → Reads (command_case (Some command)) (command_names (Some command)) store result
+pub of_flat : {S : Type 0} (command : Command) (store : Store S) (result : Result Job Refusal) → command ≡ commands.Flat → Reads flat_case (λ _. input_name ∷ []) store result → Reads (command_case (Some command)) (command_names (Some command)) store result
 of_flat command store result is read =
     subst (λ (c : Command). Reads (command_case (Some c)) (command_names (Some c)) store result) (sym is) read
 
 -- the words of a command
-pub of_words : (words : List (List ℕ)) (command : Command) (store : Store) (result : Result Job Refusal) → command_of words ≡ Some command → Reads (command_case (Some command)) (command_names (Some command)) store result → Reads (case_of words) (names_of words) store result
+pub of_words : {S : Type 0} (words : List (List ℕ)) (command : Command) (store : Store S) (result : Result Job Refusal) → command_of words ≡ Some command → Reads (command_case (Some command)) (command_names (Some command)) store result → Reads (case_of words) (names_of words) store result
 of_words words command store result is read =
     subst (λ (c : Option Command). Reads (command_case c) (command_names c) store result) (sym is) read
 

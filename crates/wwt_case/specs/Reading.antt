@@ -1,6 +1,7 @@
 -- What a call that reads from a store answers, next to what the files call for. Own.
-use Rattle.std.specs.Prelude.{◌≡◌, ◌≢◌, ⊤, ℕ, ◌+◌, ◌≤◌, ◌⊎◌, List, length, Contains, Option, Some, Result, Ok, Err, IfOk, IfErr}
+use Rattle.std.specs.Prelude.{◌≡◌, ◌≢◌, ⊤, ℕ, ◌≤◌, ◌⊎◌, List, ◌++◌, Contains, Option, Some, Result, Ok, Err, IfOk, IfErr}
 use Rattle.wt_outside.specs.Faults.{Rose, Stood}
+use Rattle.wt_outside.specs.Asked.{AreAsked}
 use Rattle.wt_outside.specs.Files.{Files, IsMissing}
 use Rattle.wwt_case.specs.declared.refusal.Refusal.{Refusal}
 use Rattle.wwt_case.specs.declared.refusal.Refusal.TheVariants.{Usage, Read, Write, Memory}
@@ -10,24 +11,41 @@ abbrev pub Answers : {A : Type 0} → Result A Refusal → Result A Refusal → 
 Answers wanted (Ok value) = wanted ≡ Ok value
 Answers wanted (Err refusal) = (refusal ≡ Memory) ⊎ (wanted ≡ Err refusal)
 
--- the files and the counts of a store: of faults and of reads, before and after a call
-pub record Store : Type 0 where
+-- A store before and after a call: its files, and what it counts as a fault and as a read of a name.
+pub record Store (S : Type 0) : Type 1 where
   pub files : Option Files
-  pub faults_before : ℕ
-  pub faults_now : ℕ
-  pub reads_before : ℕ
-  pub reads_now : ℕ
+  pub faults : S → ℕ
+  pub asked : S → List ℕ → S → Type 0
+  pub before : S
+  pub now : S
+
+-- no fault of the store rose
+abbrev pub IsSound : {S : Type 0} → Store S → Type 0
+IsSound store = Stood (store.faults store.before) (store.faults store.now)
+
+-- The names that the store was asked for, in their order, and nothing else: of told files a first part of these names,
+-- and where so said, all of them.
+pub record Asks {S : Type 0} (names : Files → List (List ℕ)) (store : Store S) (all : Type 0) : Type 0 where
+  pub asked : List (List ℕ)
+  pub are_asked : AreAsked store.faults store.asked store.before asked store.now
+  pub part : (files : Files) → store.files ≡ Some files → (rest : List (List ℕ)) × (names files ≡ asked ++ rest)
+  pub whole : (files : Files) → store.files ≡ Some files → all → asked ≡ names files
+
+-- a call came to its end: to a value, or where no fault rose to a refusal other than want of memory
+abbrev pub IsThrough : {S A : Type 0} → Store S → Result A Refusal → Type 0
+IsThrough store (Ok value) = ⊤
+IsThrough store (Err refusal) = IsSound store × (refusal ≢ Memory)
 
 -- What is answered is what the told files call for, or want of memory. A file can't be read only where the told files
--- lack its name, or where a fault rose. Each name is read once, in order, and none after a refusal.
-pub record Reads {A : Type 0} (wanted : Files → Result A Refusal) (names : Files → List (List ℕ)) (store : Store) (result : Result A Refusal) : Type 0 where
+-- lack its name, or where a fault rose. Each name that is listed is read once, in order, and none after a refusal.
+pub record Reads {S A : Type 0} (wanted : Files → Result A Refusal) (names : Files → List (List ℕ)) (store : Store S) (result : Result A Refusal) : Type 0 where
   pub found : (files : Files) → store.files ≡ Some files → IfOk result (λ value. wanted files ≡ Ok value)
-  pub refused : (files : Files) → store.files ≡ Some files → Stood store.faults_before store.faults_now → IfErr result (λ refusal. (refusal ≡ Memory) ⊎ (wanted files ≡ Err refusal))
+  pub refused : (files : Files) → store.files ≡ Some files → IsSound store → IfErr result (λ refusal. (refusal ≡ Memory) ⊎ (wanted files ≡ Err refusal))
   pub named : (files : Files) (name : List ℕ) → store.files ≡ Some files → result ≡ Err (Read name) → Contains (names files) name
-  pub once : (files : Files) → store.files ≡ Some files → store.reads_now ≤ store.reads_before + length (names files)
-  pub unread : (name : List ℕ) → result ≡ Err (Read name) → Rose store.faults_before store.faults_now ⊎ IsMissing store.files name
-  pub steady : ((name : List ℕ) → result ≢ Err (Read name)) → store.faults_now ≡ store.faults_before
-  pub later : store.faults_before ≤ store.faults_now
+  pub once : Asks names store (IsThrough store result)
+  pub unread : (name : List ℕ) → result ≡ Err (Read name) → Rose (store.faults store.before) (store.faults store.now) ⊎ IsMissing store.files name
+  pub steady : ((name : List ℕ) → result ≢ Err (Read name)) → store.faults store.now ≡ store.faults store.before
+  pub later : store.faults store.before ≤ store.faults store.now
 
 -- neither the words are refused nor the output
 abbrev pub IsOtherRefusal : Refusal → Type 0

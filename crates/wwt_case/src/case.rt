@@ -19,15 +19,15 @@ use wt_outside::Store;
 use wt_params::Machine;
 use wwt_words::{Command, WordFault, read_words};
 
-/// The job that the words and the files of the store call for, or why there is none. Files are read in order, each
-/// once, and none after a refusal.
+/// The job that the words and the files of the store call for, or why there is none. Each name that is listed for it is
+/// read once, in order, and none after a refusal.
 pub fn prepare<S: Store>(alloc: Global, words: &[String], store: &mut S) -> Result<Job, Refusal>
     ensures read { Reads (case_of (map string_bytes words.now)) (names_of (map string_bytes words.now)) (record {
       files = S.files store.old;
-      faults_before = S.faults store.old;
-      faults_now = S.faults store.new;
-      reads_before = S.reads store.old;
-      reads_now = S.reads store.new;
+      faults = S.faults;
+      asked = S.asked;
+      before = store.old;
+      now = store.new;
     }) result }
     ensures ready { IfOk result IsReady }
     ensures accepted { IfOk result (λ _. is_usage_of (command_of (map string_bytes words.now)) ≡ false) }
@@ -50,10 +50,10 @@ fn prepare_command<S: Store>(
 ) -> Result<Job, Refusal>
     ensures read { Reads (command_case (Some command.now)) (command_names (Some command.now)) (record {
       files = S.files store.old;
-      faults_before = S.faults store.old;
-      faults_now = S.faults store.new;
-      reads_before = S.reads store.old;
-      reads_now = S.reads store.new;
+      faults = S.faults;
+      asked = S.asked;
+      before = store.old;
+      now = store.new;
     }) result }
     ensures ready { IfOk result IsReady }
     ensures accepted { IfOk result (λ _. is_usage_of (Some command.now) ≡ false) }
@@ -73,10 +73,10 @@ fn prepare_command<S: Store>(
 fn prepare_check<S: Store>(alloc: Global, name: &str, store: &mut S) -> Result<Job, Refusal>
     ensures read { Reads (check_case name.now) (check_names name.now) (record {
       files = S.files store.old;
-      faults_before = S.faults store.old;
-      faults_now = S.faults store.new;
-      reads_before = S.reads store.old;
-      reads_now = S.reads store.new;
+      faults = S.faults;
+      asked = S.asked;
+      before = store.old;
+      now = store.new;
     }) result }
     ensures ready { IfOk result IsReady }
     ensures other { IsOther result }
@@ -96,10 +96,10 @@ fn prepare_machine<S: Store>(
     requires { HasImages description.now }
     ensures read { Reads (machine_case description.now) (names_from 0 description.now.images) (record {
       files = S.files store.old;
-      faults_before = S.faults store.old;
-      faults_now = S.faults store.new;
-      reads_before = S.reads store.old;
-      reads_now = S.reads store.new;
+      faults = S.faults;
+      asked = S.asked;
+      before = store.old;
+      now = store.new;
     }) result }
     ensures ready { IfOk result IsReady }
     ensures other { IsOther result }
@@ -144,10 +144,10 @@ fn read_description<S: Store>(
 ) -> Result<Description, Refusal>
     ensures read { Reads (description_case name.now) (λ _. name.now ∷ []) (record {
       files = S.files store.old;
-      faults_before = S.faults store.old;
-      faults_now = S.faults store.new;
-      reads_before = S.reads store.old;
-      reads_now = S.reads store.new;
+      faults = S.faults;
+      asked = S.asked;
+      before = store.old;
+      now = store.new;
     }) result }
     ensures files { S.files store.new ≡ S.files store.old }
     ensures images { IfOk result HasImages }
@@ -177,10 +177,10 @@ fn describe(alloc: Global, bytes: &[u8]) -> Result<Description, Refusal>
 fn prepare_dis<S: Store>(alloc: Global, name: &str, store: &mut S) -> Result<Job, Refusal>
     ensures read { Reads (dis_case name.now) (λ _. name.now ∷ []) (record {
       files = S.files store.old;
-      faults_before = S.faults store.old;
-      faults_now = S.faults store.new;
-      reads_before = S.reads store.old;
-      reads_now = S.reads store.new;
+      faults = S.faults;
+      asked = S.asked;
+      before = store.old;
+      now = store.new;
     }) result }
     ensures ready { IfOk result IsReady }
     ensures other { IsOther result }
@@ -209,10 +209,10 @@ fn dis_job(alloc: Global, bytes: Bytes) -> Result<Job, Refusal>
 fn prepare_flat<S: Store>(alloc: Global, store: &mut S) -> Result<Job, Refusal>
     ensures read { Reads flat_case (λ _. input_name ∷ []) (record {
       files = S.files store.old;
-      faults_before = S.faults store.old;
-      faults_now = S.faults store.new;
-      reads_before = S.reads store.old;
-      reads_now = S.reads store.new;
+      faults = S.faults;
+      asked = S.asked;
+      before = store.old;
+      now = store.new;
     }) result }
     ensures ready { IfOk result IsReady }
     ensures other { IsOther result }

@@ -71,10 +71,10 @@ pub fn read_images<S: Store>(
     requires held { All HoldsItsBytes found }
     ensures read { Reads (images_from found number entries.now) (names_from number entries.now) (record {
       files = S.files store.old;
-      faults_before = S.faults store.old;
-      faults_now = S.faults store.new;
-      reads_before = S.reads store.old;
-      reads_now = S.reads store.new;
+      faults = S.faults;
+      asked = S.asked;
+      before = store.old;
+      now = store.new;
     }) result }
     ensures files { S.files store.new ≡ S.files store.old }
     ensures other { IsOther result }
@@ -116,10 +116,10 @@ pub fn read_image<S: Store>(
     requires { IsPlaced entry.now }
     ensures read { Reads (image_case number entry.now) (λ _. image_names entry.now) (record {
       files = S.files store.old;
-      faults_before = S.faults store.old;
-      faults_now = S.faults store.new;
-      reads_before = S.reads store.old;
-      reads_now = S.reads store.new;
+      faults = S.faults;
+      asked = S.asked;
+      before = store.old;
+      now = store.new;
     }) result }
     ensures files { S.files store.new ≡ S.files store.old }
     ensures other { IsOther result }
@@ -151,10 +151,10 @@ pub fn read_program<S: Store>(
     requires { at % 4 ≡ 0 }
     ensures read { Reads (file_image number name.now elf at) (λ _. name.now ∷ []) (record {
       files = S.files store.old;
-      faults_before = S.faults store.old;
-      faults_now = S.faults store.new;
-      reads_before = S.reads store.old;
-      reads_now = S.reads store.new;
+      faults = S.faults;
+      asked = S.asked;
+      before = store.old;
+      now = store.new;
     }) result }
     ensures files { S.files store.new ≡ S.files store.old }
     ensures other { IsOther result }

@@ -15,10 +15,10 @@ const READ_LIMIT: u64 = 16_777_216;
 pub fn read_file<S: Store>(store: &mut S, name: Name, kind: FileKind) -> Result<Bytes, Refusal>
     ensures read { Reads (file_of name kind) (λ _. name ∷ []) (record {
       files = S.files store.old;
-      faults_before = S.faults store.old;
-      faults_now = S.faults store.new;
-      reads_before = S.reads store.old;
-      reads_now = S.reads store.new;
+      faults = S.faults;
+      asked = S.asked;
+      before = store.old;
+      now = store.new;
     }) result }
     ensures files { S.files store.new ≡ S.files store.old }
     ensures other { IsOther result }

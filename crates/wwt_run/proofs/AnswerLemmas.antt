@@ -1,10 +1,12 @@
 -- Which status goes with which end.
 use Rattle.std.proofs.Common.{◌≡◌, ◌≢◌, ℕ, List, [], Option, Some, Result, Ok, Err, IfOk, ◌⊎◌, inl, inr, Bool, true, false, cond, ap, sym, ◌∙◌, subst, refl}
+use Rattle.wt_outside.specs.Files.{Files}
 use Rattle.wt_outside.specs.Growth.{Grows}
 use Rattle.wwt_case.specs.declared.job.Job.{Job}
 use Rattle.wwt_case.specs.declared.job.Job.TheVariants.{Check, Dis, Flat}
 use Rattle.wwt_case.specs.declared.refusal.Refusal.{Refusal}
 use Rattle.wwt_case.specs.declared.refusal.Refusal.TheVariants as refusals
+use Rattle.wwt_case.specs.Reading.{Store, Asks, IsSound, IsThrough}
 use Rattle.node.specs.NodeState.{NodeState}
 use Rattle.wt_stats.specs.declared.head.Outcome.{Outcome}
 use Rattle.wt_stats.specs.declared.head.Outcome.TheVariants as outcomes
@@ -78,3 +80,18 @@ read_of (refusals.Machine fault) e = cc
 read_of (refusals.Image number why) e = cc
 read_of refusals.Write e = cc
 read_of refusals.Memory e = cc
+
+-- all names are asked for where less is said to be needed
+pub asks_when : {S : Type 0} (names : Files → List (List ℕ)) (store : Store S) (all more : Type 0) → (more → all) → Asks names store all → Asks names store more
+asks_when names store all more weaker asks = record {
+  asked = asks.asked;
+  are_asked = asks.are_asked;
+  part = asks.part;
+  whole = λ files told through. asks.whole files told (weaker through);
+}
+
+-- the same of a refusal, said of its status
+pub asks_by_status : {S : Type 0} (names : Files → List (List ℕ)) (store : Store S) (refusal : Refusal) (status : Status) → status ≡ status_of_refusal refusal → Asks names store (IsThrough {A = Status} store (Err refusal)) → Asks names store (IsSound store × (Some status ≢ Some NoMemory))
+asks_by_status names store refusal status is =
+    asks_when names store (IsThrough {A = Status} store (Err refusal)) (IsSound store × (Some status ≢ Some NoMemory))
+    (λ through. (through.0, λ memory. through.1 (ap Some (is ∙ ap status_of_refusal memory))))

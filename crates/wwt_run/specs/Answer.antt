@@ -7,7 +7,7 @@ use Rattle.wwt_case.specs.declared.job.Job.{Job}
 use Rattle.wwt_case.specs.declared.refusal.Refusal.{Refusal}
 use Rattle.wwt_case.specs.declared.refusal.Refusal.TheVariants.{Read, Write, Memory}
 use Rattle.wwt_case.specs.Case.{case_of, names_of}
-use Rattle.wwt_case.specs.Reading.{Store}
+use Rattle.wwt_case.specs.Reading.{Store, IsSound}
 use Rattle.wwt_run.specs.declared.status.Status.{Status}
 use Rattle.wwt_run.specs.declared.status.Status.TheVariants.{Done, NodeFault, Budget, EventLimit, Stalled}
 use Rattle.wwt_run.specs.Jobs.{status_of_job}
@@ -36,10 +36,10 @@ IsEarly (Err _) = Unit {0}
 
 -- How a call ended, and that the one line that was told is the line of this end. What ends the call doesn't depend on
 -- the sink of the line: a fault there changes neither status nor output.
-pub record Ended (words : List (List ℕ)) (store : Store) (status : Option Status) (before now : ℕ) (old new : Option (List ℕ)) : Type 0 where
+pub record Ended {S : Type 0} (words : List (List ℕ)) (store : Store S) (status : Option Status) (before now : ℕ) (old new : Option (List ℕ)) : Type 0 where
   pub end : Result Status Refusal
   pub status_is : status ≡ Some (status_of_end end)
-  pub of_case : (files : Files) → store.files ≡ Some files → Stood store.faults_before store.faults_now → Ends (case_of words files) end
+  pub of_case : (files : Files) → store.files ≡ Some files → IsSound store → Ends (case_of words files) end
   pub named : (files : Files) (name : List ℕ) → store.files ≡ Some files → end ≡ Err (Read name) → Contains (names_of words files) name
   pub line : Tells (line_of_end end) before now old new
 

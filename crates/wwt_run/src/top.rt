@@ -1,9 +1,10 @@
-ghost use Rattle.std.specs.Prelude.{◌≡◌, ◌≢◌, ℕ, ◌+◌, ◌<◌, ◌≤◌, ◌⊎◌, List, [], Some, Ok, Err, length, map, string_bytes, true, Contains, IsSome, IfOk, IfErr, OnOk, IsErrOf};
+ghost use Rattle.std.specs.Prelude.{◌≡◌, ◌≢◌, ℕ, ◌<◌, ◌⊎◌, List, [], Some, Ok, Err, map, string_bytes, true, Contains, IsSome, IfOk, OnOk, IsErrOf};
 ghost use Rattle.wt_outside.specs.Faults.{Rose, Stood};
 ghost use Rattle.wt_outside.specs.Files.{Files, IsMissing};
 ghost use Rattle.wt_outside.specs.Growth.{Grows, GrowsByPrefix};
 ghost use Rattle.wwt_case.specs.declared.job.Job.{Job};
 ghost use Rattle.wwt_case.specs.Case.{case_of, names_of, is_usage_of};
+ghost use Rattle.wwt_case.specs.Reading.{Asks, IsThrough};
 ghost use Rattle.wwt_words.specs.Words.{command_of};
 ghost use Rattle.wwt_run.specs.Jobs.{status_of, output_of, output_of_job};
 ghost use Rattle.wwt_run.specs.Answer.{Ended, Ends, IsDone, IsEarly};
@@ -38,18 +39,25 @@ pub fn wwt_plain<S: Store, K: Sink, E: Sink>(
     // How the call ended, whatever the sinks did, and the one line that tells of it.
     ensures ended { Ended (map string_bytes words.now) (record {
       files = S.files store.old;
-      faults_before = S.faults store.old;
-      faults_now = S.faults store.new;
-      reads_before = S.reads store.old;
-      reads_now = S.reads store.new;
+      faults = S.faults;
+      asked = S.asked;
+      before = store.old;
+      now = store.new;
     }) result (E.faults err.old) (E.faults err.new) (E.written err.old) (E.written err.new) }
 
     // Words are refused by themselves, and then nothing is read or written.
     ensures usage { result ≡ Some Status.Usage → is_usage_of (command_of (map string_bytes words.now)) ≡ true }
     ensures untouched { is_usage_of (command_of (map string_bytes words.now)) ≡ true → (store.new ≡ store.old) × (out.new ≡ out.old) }
 
-    // Each name is read once, in order, and none after a refusal.
-    ensures once { (files : Files) → S.files store.old ≡ Some files → S.reads store.new ≤ S.reads store.old + length (names_of (map string_bytes words.now) files) }
+    // Each name that the case lists is read once, in order, and none after a refusal: all of them where no fault of the
+    // store rose and memory wasn't wanted, else a first part of them.
+    ensures once { Asks (names_of (map string_bytes words.now)) (record {
+      files = S.files store.old;
+      faults = S.faults;
+      asked = S.asked;
+      before = store.old;
+      now = store.new;
+    }) (Stood (S.faults store.old) (S.faults store.new) × (result ≢ Some Status.NoMemory)) }
 
     // Only the outside makes a fault, and it is told, or want of memory is.
     ensures read_fault { result ≡ Some Status.ReadFault → Rose (S.faults store.old) (S.faults store.new) ⊎ ((name : List ℕ) × IsMissing (S.files store.old) name) }
@@ -83,7 +91,19 @@ fn attempt<S: Store, K: Sink>(
     ensures whole { (files : Files) → S.files store.old ≡ Some files → OnOk result (Grows (K.written out.old) (K.written out.new) (output_of (case_of (map string_bytes words.now) files))) }
     ensures usage { IsErrOf result Refusal.Usage → is_usage_of (command_of (map string_bytes words.now)) ≡ true }
     ensures untouched { is_usage_of (command_of (map string_bytes words.now)) ≡ true → (store.new ≡ store.old) × (out.new ≡ out.old) }
-    ensures once { (files : Files) → S.files store.old ≡ Some files → S.reads store.new ≤ S.reads store.old + length (names_of (map string_bytes words.now) files) }
+    ensures once { Asks (names_of (map string_bytes words.now)) (record {
+      files = S.files store.old;
+      faults = S.faults;
+      asked = S.asked;
+      before = store.old;
+      now = store.new;
+    }) (IsThrough (record {
+      files = S.files store.old;
+      faults = S.faults;
+      asked = S.asked;
+      before = store.old;
+      now = store.new;
+    }) result) }
     ensures unread { (name : List ℕ) → IsErrOf result (Refusal.Read name) → Rose (S.faults store.old) (S.faults store.new) ⊎ IsMissing (S.files store.old) name }
     ensures store_steady { ((name : List ℕ) → result ≢ Err (Refusal.Read name)) → S.faults store.new ≡ S.faults store.old }
     ensures write_fault { IsErrOf result Refusal.Write → Rose (K.faults out.old) (K.faults out.new) }

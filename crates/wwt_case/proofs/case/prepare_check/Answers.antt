@@ -6,4 +6,4 @@ returns-in-Err-clause-read g c = check_stopped _ _ c.in-Err.refusal c.in-Err.ens
 
 pub returns-in-Ok-clause-read : goal.returns-in-Ok-clause-read
 returns-in-Ok-clause-read g c =
-    check_done c.args.name.now c.in-Ok.description _ _ _ _ _ _ _ _ c.prepare_machine.result c.in-Ok.ensures.files c.in-Ok.ensures.read c.prepare_machine.ensures.read
+    check_done c.args.name.now c.in-Ok.description _ _ _ _ _ _ _ c.prepare_machine.result c.in-Ok.ensures.files c.in-Ok.ensures.read c.prepare_machine.ensures.read

@@ -1,5 +1,4 @@
-use Rattle.std.proofs.Common.{◌≡◌, ◌∷◌, [], Ok, Err, subst}
-use Rattle.wwt_case.specs.declared.refusal.FileKind.TheVariants as kinds
+use Rattle.std.proofs.Common.{◌∷◌, [], Err, subst}
 use Rattle.wwt_case.specs.Programs.{program_of, file_image}
 use Rattle.wwt_case.specs.Reading.{Reads}
 use Rattle.wwt_case.proofs.ReadLemmas.{reads_and, reads_ended}
@@ -10,10 +9,10 @@ pub returns-in-Err-clause-read : goal.returns-in-Err-clause-read
 returns-in-Err-clause-read g c =
     subst (λ n. Reads (file_image c.args.number n c.args.elf c.args.at) (λ _. n ∷ []) (record {
       files = g.S.Store.files c.args.store.now;
-      faults_before = g.S.Store.faults c.args.store.now;
-      faults_now = g.S.Store.faults c.read_file.new.store;
-      reads_before = g.S.Store.reads c.args.store.now;
-      reads_now = g.S.Store.reads c.read_file.new.store;
+      faults = g.S.Store.faults;
+      asked = g.S.Store.asked;
+      before = c.args.store.now;
+      now = c.read_file.new.store;
     }) (Err c.in-Err.refusal)) c.in_ok-file.ensures
     (reads_ended _ _ (program_of c.args.number c.args.elf c.args.at) _ c.in-Err.refusal c.in-Err.ensures.read)
 
@@ -21,10 +20,10 @@ pub returns-in-Ok-clause-read : goal.returns-in-Ok-clause-read
 returns-in-Ok-clause-read g c =
     subst (λ n. Reads (file_image c.args.number n c.args.elf c.args.at) (λ _. n ∷ []) (record {
       files = g.S.Store.files c.args.store.now;
-      faults_before = g.S.Store.faults c.args.store.now;
-      faults_now = g.S.Store.faults c.read_file.new.store;
-      reads_before = g.S.Store.reads c.args.store.now;
-      reads_now = g.S.Store.reads c.read_file.new.store;
+      faults = g.S.Store.faults;
+      asked = g.S.Store.asked;
+      before = c.args.store.now;
+      now = c.read_file.new.store;
     }) c.program.result) c.in_ok-file.ensures
     (reads_and _ _ (program_of c.args.number c.args.elf c.args.at) _ _ _ _ _ c.in-Ok.bytes c.program.result c.in-Ok.ensures.read c.program.ensures.answer
     (program_reads_nothing c.args.number c.args.elf c.args.at c.in-Ok.bytes))

@@ -1,7 +1,7 @@
 use Rattle.std.proofs.Common.{◌≡◌, Some, Err, inl, inr, ap, sym, ◌∙◌}
 use Rattle.wt_outside.proofs.FaultLemmas.{not_both}
 use Rattle.wwt_run.specs.declared.status.Status.TheVariants.{Usage, ReadFault, WriteFault}
-use Rattle.wwt_run.proofs.AnswerLemmas.{not_done, ok_status, refused_end, read_of}
+use Rattle.wwt_run.proofs.AnswerLemmas.{not_done, ok_status, refused_end, read_of, asks_when, asks_by_status}
 use Rattle.wwt_run.proofs.top.wwt_plain.Goals as goal
 
 pub returns-in-Ok-clause-headline : goal.returns-in-Ok-clause-headline
@@ -27,3 +27,9 @@ returns-in-Err-clause-read_fault g c = λ same.
     let is : c.refuse.result ≡ ReadFault = cc in
     let read = read_of c.in-Err.refusal (sym c.refuse.ensures.status ∙ is) in
     elim (c.in-Err.ensures.unread read.0 (ap Err read.1)) [ inl rose ↦ inl rose | inr missing ↦ inr (read.0, missing) ]
+
+pub returns-in-Ok-clause-once : goal.returns-in-Ok-clause-once
+returns-in-Ok-clause-once g c = asks_when _ _ _ _ (λ _. tt) c.in-Ok.ensures.once
+
+pub returns-in-Err-clause-once : goal.returns-in-Err-clause-once
+returns-in-Err-clause-once g c = asks_by_status _ _ c.in-Err.refusal c.refuse.result c.refuse.ensures.status c.in-Err.ensures.once
