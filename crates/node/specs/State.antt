@@ -15,35 +15,35 @@ use Rattle.node.specs.declared.state.NodeState.{NodeState}
 abbrev pub events_of : NodeState → ℕ
 events_of node = node.counters.steps + node.counters.messages
 
+abbrev pub is_running_in : Mode → Bool
+is_running_in Running = true
+is_running_in _ = false
+
 abbrev pub is_running : NodeState → Bool
-is_running node = by node.mode
-  where
-    by : Mode → Bool
-    by Running = true
-    by _ = false
+is_running node = is_running_in node.mode
+
+abbrev pub is_stopped_in : Mode → Bool
+is_stopped_in (Stopped cause) = true
+is_stopped_in _ = false
 
 abbrev pub is_stopped : NodeState → Bool
-is_stopped node = by node.mode
-  where
-    by : Mode → Bool
-    by (Stopped cause) = true
-    by _ = false
+is_stopped node = is_stopped_in node.mode
 
--- the program ended by an exit with the code 0
+-- a program that ended by an exit with the code 0
+abbrev pub exits_well_in : Mode → Bool
+exits_well_in (Stopped (Exit code)) = code == 0
+exits_well_in _ = false
+
 abbrev pub exits_well : NodeState → Bool
-exits_well node = by node.mode
-  where
-    by : Mode → Bool
-    by (Stopped (Exit code)) = code == 0
-    by _ = false
+exits_well node = exits_well_in node.mode
 
 -- the time of the last event, or 0 before the first
+abbrev pub time_of_last : Option Key → ℕ
+time_of_last None = 0
+time_of_last (Some key) = key.time
+
 abbrev pub last_time_of : NodeState → ℕ
-last_time_of node = by node.last
-  where
-    by : Option Key → ℕ
-    by None = 0
-    by (Some key) = key.time
+last_time_of node = time_of_last node.last
 
 -- A processor's next step begins when it is ready and no trap keeps its node busy.
 abbrev pub step_time : NodeState → ℕ

@@ -7,15 +7,17 @@ use Rattle.wwt_case.specs.declared.job.Job.TheVariants.{Check, Dis, Flat}
 use Rattle.wwt_case.specs.declared.refusal.Refusal.{Refusal}
 use Rattle.wwt_case.specs.declared.refusal.Refusal.TheVariants as refusals
 use Rattle.wwt_case.specs.Reading.{Store, Asks, IsSound, IsThrough}
-use Rattle.node.specs.NodeState.{NodeState}
+use Rattle.node.specs.declared.state.NodeState.{NodeState}
 use Rattle.wt_stats.specs.declared.head.Outcome.{Outcome}
 use Rattle.wt_stats.specs.declared.head.Outcome.TheVariants as outcomes
 use Rattle.wwt_run.specs.declared.status.Status.{Status}
 use Rattle.wwt_run.specs.declared.status.Status.TheVariants.{Done, NodeFault, ReadFault, NoMemory}
 use Rattle.wwt_run.specs.Status.{status_of_refusal, status_after_of}
+use Rattle.wt_params.specs.declared.parts.MachineParts.{MachineParts}
 use Rattle.wt_params.specs.Machine.{flat_machine}
+use Rattle.image_loader.specs.Images.{LoadedImages}
 use Rattle.wwt_run.specs.Outcome.{outcome_of}
-use Rattle.wwt_run.specs.Jobs.{final_flat, status_of_job, status_of, output_of, flat_bytes, status_of_run}
+use Rattle.wwt_run.specs.Jobs.{final_of, status_of_job, status_of, output_of, status_of_run}
 use Rattle.wwt_run.specs.Answer.{Ends, IsDone, IsEarly}
 
 either_done : (b : Bool) → IsDone (cond b Done NodeFault)
@@ -28,14 +30,14 @@ run_is_done outcomes.Budget nodes = tt
 run_is_done outcomes.EventLimit nodes = tt
 run_is_done outcomes.Stalled nodes = tt
 
-flat_is_done : (bytes : List ℕ) → IsDone (status_of_run bytes)
+ran_is_done : (machine : MachineParts) (loaded : LoadedImages) → IsDone (status_of_run machine loaded)
 unfolding status_of_run
-flat_is_done bytes = run_is_done (outcome_of flat_machine (final_flat bytes)) (final_flat bytes).nodes
+ran_is_done machine loaded = run_is_done (outcome_of machine (final_of machine loaded)) (final_of machine loaded).nodes
 
 job_is_done : (job : Job) → IsDone (status_of_job job)
 job_is_done (Check machine loaded) = tt
 job_is_done (Dis image) = tt
-job_is_done (Flat loaded) = flat_is_done (flat_bytes loaded)
+job_is_done (Flat loaded) = ran_is_done flat_machine loaded
 
 pub end_is_done : (job : Job) (result : Result Status Refusal) → IfOk result (λ status. status ≡ status_of_job job) → IfOk result IsDone
 end_is_done job (Ok status) is = subst IsDone (sym is) (job_is_done job)

@@ -6,3 +6,5 @@ pub mod Computed
 pub mod CountLemmas
 pub mod AnswerLemmas
 pub mod RefusedLemmas
+pub mod SilentLemmas
+pub mod GoingLemmas

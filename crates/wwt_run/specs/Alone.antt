@@ -5,18 +5,23 @@ use Rattle.wt_params.specs.declared.parts.MachineParts.{MachineParts}
 use Rattle.wt_proto.specs.declared.mode.Mode.{Mode}
 use Rattle.wt_proto.specs.declared.mode.Mode.TheVariants.{Running, Stopped}
 use Rattle.discrete_events.specs.World.{is_spent, counts_below}
-use Rattle.node.specs.NodeState.{NodeState}
-use Rattle.node.specs.Event.{step_time, wind_tunnel}
+use Rattle.node.specs.declared.state.NodeState.{NodeState}
+use Rattle.node.specs.State.{is_running, step_time}
+use Rattle.node.specs.React.{wind_tunnel}
 use Rattle.wt_stats.specs.declared.head.Outcome.{Outcome}
 use Rattle.wt_stats.specs.declared.head.Outcome.TheVariants.{Finished, Budget, EventLimit, Stalled}
-use Rattle.wwt_run.specs.World.{World, is_running}
+use Rattle.wwt_run.specs.World.{World, at_rest}
+
+-- a machine of one node, before any quantum
+abbrev pub alone : NodeState → World
+alone node = at_rest (node ∷ [])
 
 -- the world of one node, with nothing under way
 abbrev pub world_of : NodeState → ℕ → ℕ → World
 world_of node kept_end quanta = record { nodes = node ∷ []; pending = empty; kept_end = kept_end; quanta = quanta }
 
 abbrev pub has_step : MachineParts → NodeState → Bool
-has_step machine node = is_running node.mode && counts_below (wind_tunnel machine) machine.budget node (step_time node)
+has_step machine node = is_running node && counts_below (wind_tunnel machine) machine.budget node (step_time node)
 
 -- when the node's next event is, if it has one
 abbrev pub due_in : MachineParts → NodeState → Option ℕ

@@ -1,9 +1,14 @@
 -- Worked programs, and the reports that go with them, for the definitions to be compared with. Own.
-use Rattle.std.specs.Prelude.{ℕ, zero, suc, ◌++◌, List, [], ◌∷◌, codes}
+use Rattle.std.specs.Prelude.{ℕ, zero, suc, false, ◌++◌, replicate, List, [], ◌∷◌, codes}
 use Rattle.wt_params.specs.Machine.{flat_machine}
+use Rattle.priv_mem.specs.Memory.{overwritten}
+use Rattle.elf_image.specs.Flat.{flat_image}
+use Rattle.image_loader.specs.Images.{LoadedImages, loaded_with}
+use Rattle.start_memories.specs.Start.{homes_of}
 use Rattle.discrete_events.specs.Simulation.{Step}
-use Rattle.node.specs.NodeState.{NodeState, start_node}
-use Rattle.node.specs.Event.{react}
+use Rattle.node.specs.declared.state.NodeState.{NodeState}
+use Rattle.node.specs.Start.{start_with}
+use Rattle.node.specs.React.{react}
 
 -- six words that print one letter and end by the code 0
 abbrev pub print_a : List ℕ
@@ -15,9 +20,19 @@ print_a =
 abbrev pub endless_jump : List ℕ
 endless_jump = 0x6f ∷ 0x00 ∷ 0x00 ∷ 0x00 ∷ []
 
+-- flat bytes, loaded for the flat machine
+abbrev pub flat_loaded : List ℕ → LoadedImages
+flat_loaded bytes = loaded_with flat_machine (flat_image bytes 0 ∷ [])
+
+-- the one node at the start: its private memory is zero but for the bytes
+abbrev pub flat_start : List ℕ → NodeState
+flat_start bytes =
+    start_with flat_machine 0 0 (overwritten (replicate flat_machine.private_bytes 0) 0 (bytes ++ []))
+    (homes_of flat_machine (flat_loaded bytes) 0) false
+
 -- a node after so many steps from its start
 abbrev pub after_steps : List ℕ → ℕ → NodeState
-after_steps bytes zero = start_node flat_machine bytes
+after_steps bytes zero = flat_start bytes
 after_steps bytes (suc n) = (react flat_machine (after_steps bytes n) Step).0
 
 abbrev pub other_counts : List ℕ

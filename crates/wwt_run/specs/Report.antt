@@ -7,8 +7,8 @@ use Rattle.wt_proto.specs.declared.mode.Cause.{Cause}
 use Rattle.wt_proto.specs.declared.mode.Cause.TheVariants.{Exit, Illegal, Fetch, Target, Address, Misaligned, Call, Break}
 use Rattle.wt_proto.specs.declared.mode.Mode.{Mode}
 use Rattle.wt_proto.specs.declared.mode.Mode.TheVariants.{Running, Waiting, InBarrier, Stopped}
-use Rattle.node.specs.NodeState.{NodeState}
-use Rattle.node.specs.Event.{step_time}
+use Rattle.node.specs.declared.state.NodeState.{NodeState}
+use Rattle.node.specs.State.{step_time}
 use Rattle.wt_stats.specs.declared.head.Outcome.{Outcome}
 use Rattle.wt_stats.specs.declared.head.Outcome.TheVariants.{Finished, Budget, EventLimit, Stalled}
 use Rattle.wt_stats.specs.declared.head.Head.{Head}

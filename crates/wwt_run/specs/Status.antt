@@ -1,11 +1,9 @@
 -- How a call of the program ends. Own.
-use Rattle.std.specs.Prelude.{ℕ, List, Bool, false, ◌==◌, if◌then◌else◌, Result, Ok, Err}
+use Rattle.std.specs.Prelude.{ℕ, List, if◌then◌else◌, Result, Ok, Err}
 use Rattle.std.specs.List.{list_all}
 use Rattle.wt_params.specs.declared.parts.MachineParts.{MachineParts}
-use Rattle.wt_proto.specs.declared.mode.Cause.TheVariants.{Exit}
-use Rattle.wt_proto.specs.declared.mode.Mode.{Mode}
-use Rattle.wt_proto.specs.declared.mode.Mode.TheVariants.{Stopped}
-use Rattle.node.specs.NodeState.{NodeState}
+use Rattle.node.specs.declared.state.NodeState.{NodeState}
+use Rattle.node.specs.State.{exits_well}
 use Rattle.wt_stats.specs.declared.head.Outcome.{Outcome}
 use Rattle.wt_stats.specs.declared.head.Outcome.TheVariants as outcomes
 use Rattle.wwt_case.specs.declared.refusal.Refusal.{Refusal}
@@ -29,15 +27,10 @@ code_of ReadFault = 8
 code_of WriteFault = 9
 code_of NoMemory = 10
 
--- the program of a node ended itself by the code 0
-abbrev pub exits_well : Mode → Bool
-exits_well (Stopped (Exit code)) = code == 0
-exits_well _ = false
-
 -- the status of a run that ends like this, where these nodes are left
 abbrev pub status_after_of : Outcome → List NodeState → Status
 status_after_of outcomes.Finished nodes =
-    if list_all (λ (node : NodeState). exits_well node.mode) nodes then Done else NodeFault
+    if list_all exits_well nodes then Done else NodeFault
 status_after_of outcomes.Budget nodes = Budget
 status_after_of outcomes.EventLimit nodes = EventLimit
 status_after_of outcomes.Stalled nodes = Stalled

@@ -1,24 +1,21 @@
 -- The whole machine at a moment, which is a world of its simulation, and at its start. Own.
-use Rattle.std.specs.Prelude.{ℕ, Bool, true, false, List, [], ◌∷◌}
+use Rattle.std.specs.Prelude.{ℕ, Bool, List, map}
+use Rattle.std.specs.List.{range_with_len}
 use Rattle.std.specs.FinMap.{empty}
 use Rattle.wt_params.specs.declared.parts.MachineParts.{MachineParts}
-use Rattle.wt_proto.specs.declared.mode.Mode.{Mode}
-use Rattle.wt_proto.specs.declared.mode.Mode.TheVariants.{Running}
+use Rattle.wt_proto.specs.declared.message.Msg.{Msg}
 use Rattle.discrete_events.specs.World.{World as WorldOf}
-use Rattle.node.specs.NodeState.{NodeState, start_node}
-use Rattle.node.specs.Event.{Body}
+use Rattle.image_loader.specs.Images.{LoadedImages}
+use Rattle.node.specs.declared.state.NodeState.{NodeState}
+use Rattle.node.specs.Start.{start_node}
 
 abbrev pub World : Type 0
-World = WorldOf NodeState Body
+World = WorldOf NodeState Msg
 
-abbrev pub is_running : Mode → Bool
-is_running Running = true
-is_running _ = false
+-- nodes with nothing under way between them, before any quantum
+abbrev pub at_rest : List NodeState → World
+at_rest nodes = record { nodes = nodes; pending = empty; kept_end = 0; quanta = 0 }
 
--- a machine of one node at the start
-abbrev pub alone : NodeState → World
-alone node = record { nodes = node ∷ []; pending = empty; kept_end = 0; quanta = 0 }
-
--- the machine that runs flat bytes, at the start
-abbrev pub start_flat : MachineParts → List ℕ → World
-start_flat machine bytes = alone (start_node machine bytes)
+-- The start: every node of the machine, with the images in its memories.
+abbrev pub start_of : MachineParts → LoadedImages → Bool → World
+start_of machine loaded traced = at_rest (map (start_node machine loaded traced) (range_with_len 0 machine.nodes))

@@ -1,7 +1,8 @@
-ghost use Rattle.std.specs.Prelude.{◌≡◌, ◌≢◌, ◌≤◌, ◌⊎◌, Err, [], ◌∷◌, length, IfOk, IfErr, OnOk, OnErr, IsErrOf};
+ghost use Rattle.std.specs.Prelude.{◌≡◌, ◌≢◌, ◌≤◌, ◌⊎◌, Err, [], ◌∷◌, IfOk, IfErr, OnOk, OnErr, IsErrOf};
 ghost use Rattle.wt_params.specs.Machine.{flat_machine};
 ghost use Rattle.wt_outside.specs.Faults.{Rose};
 ghost use Rattle.wt_outside.specs.Growth.{Grows, GrowsByPrefix};
+ghost use Rattle.wwt_case.specs.Case.{IsFlat};
 ghost use Rattle.wwt_run.specs.Jobs.{status_of_run, output_of_run};
 ghost use Rattle.wwt_run.specs.Report.{joined};
 ghost use Rattle.wwt_run.specs.Status.{status_after_of};
@@ -9,6 +10,7 @@ ghost use Rattle.wwt_run.specs.Status.{status_after_of};
 use crate::report::report_alone;
 use crate::simulate::run_alone;
 use crate::status::Status;
+use image_loader::Loaded;
 use node::Node;
 use std::alloc::Global;
 use wt_outside::{Failed, Sink};
@@ -19,17 +21,17 @@ use wt_text::Line;
 use wwt_case::Refusal;
 
 /// Runs flat bytes on the flat machine, and writes the report.
-pub fn run_flat<K: Sink>(alloc: Global, bytes: &[u8], out: &mut K) -> Result<Status, Refusal>
-    requires { length bytes.now ≤ flat_machine.private_bytes }
-    ensures status { IfOk result (λ status. status ≡ status_of_run bytes.now) }
-    ensures whole { OnOk result (Grows (K.written out.old) (K.written out.new) (output_of_run bytes.now)) }
-    ensures part { GrowsByPrefix (K.written out.old) (K.written out.new) (output_of_run bytes.now) }
+pub fn run_flat<K: Sink>(alloc: Global, loaded: &Loaded, out: &mut K) -> Result<Status, Refusal>
+    requires { IsFlat loaded.now }
+    ensures status { IfOk result (λ status. status ≡ status_of_run flat_machine loaded.now) }
+    ensures whole { OnOk result (Grows (K.written out.old) (K.written out.new) (output_of_run flat_machine loaded.now)) }
+    ensures part { GrowsByPrefix (K.written out.old) (K.written out.new) (output_of_run flat_machine loaded.now) }
     ensures kinds { IfErr result (λ refusal. (refusal ≡ Refusal.Write) ⊎ (refusal ≡ Refusal.Memory)) }
     ensures failed { IsErrOf result Refusal.Write → Rose (K.faults out.old) (K.faults out.new) }
     ensures steady { (result ≢ Err Refusal.Write) → K.faults out.new ≡ K.faults out.old }
     ensures later { K.faults out.old ≤ K.faults out.new }
 {
-    let (lines, status) = flat_report(alloc, bytes)?;
+    let (lines, status) = flat_report(alloc, loaded)?;
     match write_lines(&lines, out) {
         Ok(()) => Ok(status),
         Err(Failed) => Err(Refusal::Write),
@@ -37,14 +39,14 @@ pub fn run_flat<K: Sink>(alloc: Global, bytes: &[u8], out: &mut K) -> Result<Sta
 }
 
 /// The lines of the report of flat bytes on the flat machine, and the status that goes with them.
-fn flat_report(alloc: Global, bytes: &[u8]) -> Result<(Vec<Line>, Status), NoMemory>
-    requires { length bytes.now ≤ flat_machine.private_bytes }
-    ensures lines { IfOk result (λ report. joined report.0.items ≡ output_of_run bytes.now) }
-    ensures status { IfOk result (λ report. report.1 ≡ status_of_run bytes.now) }
+fn flat_report(alloc: Global, loaded: &Loaded) -> Result<(Vec<Line>, Status), NoMemory>
+    requires { IsFlat loaded.now }
+    ensures lines { IfOk result (λ report. joined report.0.items ≡ output_of_run flat_machine loaded.now) }
+    ensures status { IfOk result (λ report. report.1 ≡ status_of_run flat_machine loaded.now) }
 {
     let machine = Machine::flat();
-    let mut node = Node::flat(alloc, &machine, bytes)?;
-    let head = run_alone(&machine, &mut node)?;
+    let mut node = Node::new(alloc, &machine, 0, loaded, false)?;
+    let head = run_alone(alloc, &machine, &mut node)?;
     let lines = report_alone(alloc, &machine, &head, &node)?;
     Ok((lines, status_after(head.outcome, &node)))
 }

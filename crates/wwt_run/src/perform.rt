@@ -1,13 +1,11 @@
-ghost use Rattle.std.specs.Prelude.{◌≡◌, ◌≢◌, ◌≤◌, ◌⊎◌, Err, IfOk, IfErr, OnOk, IsErrOf, length};
-ghost use Rattle.wt_params.specs.Machine.{flat_machine};
+ghost use Rattle.std.specs.Prelude.{◌≡◌, ◌≢◌, ◌≤◌, ◌⊎◌, Err, IfOk, IfErr, OnOk, IsErrOf};
 ghost use Rattle.wt_outside.specs.Faults.{Rose};
 ghost use Rattle.wt_outside.specs.Growth.{Grows, GrowsByPrefix};
-ghost use Rattle.wwt_case.specs.Case.{IsReady, IsFlat};
-ghost use Rattle.wwt_run.specs.Jobs.{WritingEnds, output_of_job, status_of_job, flat_bytes, status_of_run, output_of_run};
+ghost use Rattle.wwt_case.specs.Case.{IsReady};
+ghost use Rattle.wwt_run.specs.Jobs.{WritingEnds, output_of_job, status_of_job};
 
 use crate::flat::run_flat;
 use crate::status::Status;
-use image_loader::Loaded;
 use std::alloc::Global;
 use wt_listing::{ListingFault, write_machine, write_words};
 use wt_outside::Sink;
@@ -27,7 +25,7 @@ pub fn perform<K: Sink>(alloc: Global, job: &Job, out: &mut K) -> Result<Status,
     match job {
         Job::Check { machine, loaded } => written(write_machine(alloc, machine, loaded, out)),
         Job::Dis { image } => written(write_words(alloc, image, out)),
-        Job::Flat { loaded } => run_loaded(alloc, loaded, out),
+        Job::Flat { loaded } => run_flat(alloc, loaded, out),
     }
 }
 
@@ -40,29 +38,4 @@ fn written(writing: Result<(), ListingFault>) -> Result<Status, Refusal>
         Err(ListingFault::Failed) => Err(Refusal::Write),
         Err(ListingFault::NoMemory) => Err(Refusal::Memory),
     }
-}
-
-/// Runs flat bytes that are loaded into the flat machine.
-fn run_loaded<K: Sink>(alloc: Global, loaded: &Loaded, out: &mut K) -> Result<Status, Refusal>
-    requires { IsFlat loaded.now }
-    ensures status { IfOk result (λ status. status ≡ status_of_run (flat_bytes loaded.now)) }
-    ensures whole { OnOk result (Grows (K.written out.old) (K.written out.new) (output_of_run (flat_bytes loaded.now))) }
-    ensures part { GrowsByPrefix (K.written out.old) (K.written out.new) (output_of_run (flat_bytes loaded.now)) }
-    ensures kinds { IfErr result (λ refusal. (refusal ≡ Refusal.Write) ⊎ (refusal ≡ Refusal.Memory)) }
-    ensures failed { IsErrOf result Refusal.Write → Rose (K.faults out.old) (K.faults out.new) }
-    ensures steady { (result ≢ Err Refusal.Write) → K.faults out.new ≡ K.faults out.old }
-    ensures later { K.faults out.old ≤ K.faults out.new }
-{
-    run_flat(alloc, bytes_of(loaded), out)
-}
-
-/// The bytes of the one segment of flat bytes.
-fn bytes_of(loaded: &Loaded) -> &[u8]
-    requires { IsFlat loaded.now }
-    ensures value { result.now ≡ flat_bytes loaded.now }
-    ensures fits { length result.now ≤ flat_machine.private_bytes }
-{
-    let image = loaded.image(0);
-    let segments = image.segments.get();
-    segments[0].bytes.get()
 }

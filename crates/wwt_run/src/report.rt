@@ -1,6 +1,7 @@
 ghost use Rattle.std.specs.Prelude.{◌≡◌, ◌<◌, [], ◌∷◌, ◌++◌, length, codes, decimal, map, IfOk, OnOk};
-ghost use Rattle.node.specs.Event.{step_time};
-ghost use Rattle.node.specs.NodeState.{WaitsForABlock};
+ghost use Rattle.node.specs.State.{step_time};
+ghost use Rattle.node.specs.Laws.{IsWhole};
+ghost use Rattle.node.specs.Sound.{WaitsForABlock};
 ghost use Rattle.wt_text.specs.Text.{line_end};
 ghost use Rattle.wwt_run.specs.Report.{outcome_text_of, cause_text, state_text, processor_text, counts_text, totals_text, output_text, node_line_of, count_line_of, out_line_of, total_line_of, report_lines};
 
@@ -19,7 +20,8 @@ pub fn report_alone(
     head: &Head,
     node: &Node,
 ) -> Result<Vec<Line>, NoMemory>
-    requires { node.now.machine ≡ machine.now }
+    requires machine { node.now.machine ≡ machine.now }
+    requires whole { IsWhole node.now }
     ensures { IfOk result (λ lines. lines.items ≡ report_lines machine.now head.now (node.now.state ∷ [])) }
 {
     let mut lines = Vec::new(alloc);
@@ -67,7 +69,8 @@ fn entry(alloc: Global, text: &[u8], number: u128) -> Result<Line, NoMemory>
 
 /// What the node at a place does, where, and when.
 fn node_line(alloc: Global, machine: &Machine, place: u32, node: &Node) -> Result<Line, NoMemory>
-    requires { node.now.machine ≡ machine.now }
+    requires machine { node.now.machine ≡ machine.now }
+    requires whole { IsWhole node.now }
     ensures { IfOk result (λ line. line ≡ node_line_of machine.now place node.now.state) }
 {
     let mut line = Line::new(alloc, b"node ")?;
@@ -79,7 +82,8 @@ fn node_line(alloc: Global, machine: &Machine, place: u32, node: &Node) -> Resul
 }
 
 fn processor(line: &mut Line, machine: &Machine, node: &Node) -> Result<(), NoMemory>
-    requires { node.now.machine ≡ machine.now }
+    requires machine { node.now.machine ≡ machine.now }
+    requires whole { IsWhole node.now }
     ensures { OnOk result (line.new ≡ line.old ++ processor_text machine.now node.now.state) }
 {
     state(line, machine, node.mode())?;

@@ -1,14 +1,16 @@
-ghost use Rattle.std.specs.Prelude.{◌≡◌, ℕ, ◌+◌, ◌^◌, ◌<◌, ◌≤◌, [], ◌∷◌, OnOk, IfOk, IfSome};
+ghost use Rattle.std.specs.Prelude.{◌≡◌, ℕ, ◌+◌, ◌^◌, ◌<◌, ◌≤◌, [], ◌∷◌, None, OnOk, IfOk, IfSome};
 ghost use Rattle.discrete_events.specs.Serial.{final};
-ghost use Rattle.node.specs.NodeState.{events_of};
-ghost use Rattle.node.specs.Event.{wind_tunnel};
-ghost use Rattle.wwt_run.specs.World.{alone};
-ghost use Rattle.wwt_run.specs.Outcome.{head_of, last_time_of};
-ghost use Rattle.wwt_run.specs.Alone.{due_in, world_of, kept_end_after, quanta_after, outcome_alone};
+ghost use Rattle.node.specs.State.{events_of, last_time_of};
+ghost use Rattle.node.specs.React.{wind_tunnel};
+ghost use Rattle.node.specs.Laws.{IsWhole};
+ghost use Rattle.node.specs.Sound.{IsNode};
+ghost use Rattle.wwt_run.specs.Outcome.{head_of};
+ghost use Rattle.wwt_run.specs.Alone.{alone, due_in, world_of, kept_end_after, quanta_after, outcome_alone};
 
 use node::Node;
+use std::alloc::Global;
 use wt_params::{Machine, NoMemory};
-use wt_proto::Mode;
+use wt_proto::{Mode, StampedList};
 use wt_stats::{Head, Outcome};
 
 /// The quanta of a run so far.
@@ -37,19 +39,24 @@ impl Quanta {
 }
 
 /// Runs a machine of one node as long as there is an event.
-pub fn run_alone(machine: &Machine, node: &mut Node) -> Result<Head, NoMemory>
+pub fn run_alone(alloc: Global, machine: &Machine, node: &mut Node) -> Result<Head, NoMemory>
     requires machine { node.old.machine ≡ machine.now }
     requires one { machine.now.nodes ≡ 1 }
+    requires no_shared { machine.now.blocks ≡ 0 }
+    requires whole { IsWhole node.old }
+    requires unused { node.old.state.last ≡ None }
     ensures head { IfOk result (λ head. head ≡ head_of machine.now (final (wind_tunnel machine.now) (alone node.old.state))) }
     ensures kept { node.new.machine ≡ node.old.machine }
+    ensures whole { OnOk result (IsWhole node.new) }
     ensures nodes { OnOk result ((final (wind_tunnel machine.now) (alone node.old.state)).nodes ≡ node.new.state ∷ []) }
 {
     let mut quanta = Quanta {
         kept_end: 0,
         count: 0,
     };
+    let mut out = StampedList::new(alloc);
     while let Some(time) = due(machine, node) {
-        node.handle_step()?;
+        node.handle_step(&mut out)?;
         quanta.count_event(machine, time);
     }
     Ok(head(machine, node, quanta.count))
@@ -58,10 +65,12 @@ pub fn run_alone(machine: &Machine, node: &mut Node) -> Result<Head, NoMemory>
 /// The time of the node's next event, if it has one.
 fn due(machine: &Machine, node: &Node) -> Option<u64>
     requires machine { node.now.machine ≡ machine.now }
+    requires whole { IsWhole node.now }
     ensures due { result ≡ due_in machine.now node.now.state }
     ensures room { IfSome result (λ _. events_of node.now.state < machine.now.event_limit) }
     ensures bound { events_of node.now.state ≤ machine.now.event_limit }
     ensures limit { machine.now.event_limit ≤ 2 ^ 40 }
+    ensures sound { IsNode machine.now node.now.state }
 {
     let spent = node.spent();
     let time = node.next_step()?;
@@ -74,6 +83,7 @@ fn due(machine: &Machine, node: &Node) -> Option<u64>
 /// What the run of a node comes to.
 fn head(machine: &Machine, node: &Node, quanta: u64) -> Head
     requires machine { node.now.machine ≡ machine.now }
+    requires whole { IsWhole node.now }
     ensures { result ≡ head_of machine.now (world_of node.now.state 0 quanta) }
 {
     let outcome = outcome(node);
@@ -88,7 +98,7 @@ fn head(machine: &Machine, node: &Node, quanta: u64) -> Head
 
 /// The time of the node's last event, or 0 where there was none.
 fn last_time(node: &Node) -> u64
-    ensures { result ≡ last_time_of node.now.state.last }
+    ensures { result ≡ last_time_of node.now.state }
 {
     match node.last() {
         None => 0,
@@ -98,6 +108,7 @@ fn last_time(node: &Node) -> u64
 
 /// How the run of a node has ended.
 fn outcome(node: &Node) -> Outcome
+    requires { IsWhole node.now }
     ensures outcome { result ≡ outcome_alone node.now.machine node.now.state }
     ensures bound { events_of node.now.state ≤ 2 ^ 40 }
 {

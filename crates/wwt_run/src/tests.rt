@@ -1,11 +1,11 @@
-ghost use Rattle.std.specs.Prelude.{◌≡◌, []};
+ghost use Rattle.std.specs.Prelude.{◌≡◌, [], ◌∷◌};
 ghost use Rattle.wt_params.specs.Machine.{flat_machine};
 ghost use Rattle.discrete_events.specs.Serial.{serial};
-ghost use Rattle.node.specs.Event.{wind_tunnel};
+ghost use Rattle.node.specs.React.{wind_tunnel};
 ghost use Rattle.wwt_run.specs.Alone.{world_of};
 ghost use Rattle.wwt_run.specs.Jobs.{output_of_run, status_of_run};
-ghost use Rattle.wwt_run.specs.Examples.{print_a, print_a_report, empty_report, endless_jump, after_steps};
-ghost use Rattle.wwt_run.specs.World.{start_flat};
+ghost use Rattle.wwt_run.specs.Examples.{flat_loaded, flat_start, print_a, print_a_report, empty_report, endless_jump, after_steps};
+ghost use Rattle.wwt_run.specs.World.{at_rest};
 
 use super::*;
 use std::alloc::Global;
@@ -83,11 +83,11 @@ fn is_refused(rt: &impl Abort, ran: &Ran, status: Status, line: &[u8]) {
 
 /// The definitions of the serial run and of the report, computed on worked programs, give their reports.
 fn definitions_give_the_worked_reports()
-    ensures print_a { output_of_run print_a ≡ print_a_report }
-    ensures print_a_status { status_of_run print_a ≡ Status.Done }
-    ensures empty { output_of_run [] ≡ empty_report }
-    ensures empty_status { status_of_run [] ≡ Status.NodeFault }
-    ensures jump { serial (wind_tunnel flat_machine) 3 (start_flat flat_machine endless_jump) ≡ world_of (after_steps endless_jump 3) 3 3 }
+    ensures print_a { output_of_run flat_machine (flat_loaded print_a) ≡ print_a_report }
+    ensures print_a_status { status_of_run flat_machine (flat_loaded print_a) ≡ Status.Done }
+    ensures empty { output_of_run flat_machine (flat_loaded []) ≡ empty_report }
+    ensures empty_status { status_of_run flat_machine (flat_loaded []) ≡ Status.NodeFault }
+    ensures jump { serial (wind_tunnel flat_machine) 3 (at_rest (flat_start endless_jump ∷ [])) ≡ world_of (after_steps endless_jump 3) 3 3 }
     ensures jump_place { (after_steps endless_jump 3).pc ≡ 0 }
     ensures jump_time { (after_steps endless_jump 3).ready ≡ 3 }
 {}
