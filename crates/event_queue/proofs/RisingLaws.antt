@@ -1,5 +1,5 @@
 -- Laws of rising lists of messages.
-use Rattle.std.proofs.Common.{◌≡◌, ◌≢◌, ℕ, zero, suc, ◌<◌, ◌≤◌, ◌+◌, Bool, true, false, cond, T, ◌&&◌, List, [], ◌∷◌, ◌++◌, length, take, drop, get_or, refl, ap, sym, subst, ◌∙◌, arith}
+use Rattle.std.proofs.Common.{◌≡◌, ℕ, zero, suc, ◌≤◌, Bool, true, false, cond, T, ◌&&◌, List, [], ◌∷◌, ◌++◌, length, take, drop, get_or, Result, Ok, Err, OnOk, OnErr, refl, ap, sym, subst, ◌∙◌, arith}
 use Rattle.std.specs.declared.cmp.Ordering.{Ordering}
 use Rattle.std.specs.declared.cmp.Ordering.TheVariants.{Less, Equal, Greater}
 use Rattle.std.specs.Ordering.{is_lt, ordering_reverse}
@@ -120,6 +120,12 @@ IsPermutation-insert_of message (m ∷ ms) = at (is_before (key_of message) m) (
 pub All-insert_of : (P : Stamped → Type 0) (message : Stamped) (messages : List Stamped) → P message → All P messages → All P (insert_of message messages)
 All-insert_of P message messages one all =
     All-permutation P (message ∷ messages) (insert_of message messages) (IsPermutation-insert_of message messages) (All-cons P message messages one all)
+
+-- the same after an insertion that may be refused
+pub All-after_insert : {T E : Type 0} (P : Stamped → Type 0) (result : Result T E) (message : Stamped) (old new : List Stamped) → OnOk result (new ≡ insert_of message old) → OnErr result (new ≡ old) → P message → All P old → All P new
+All-after_insert P (Ok x) message old new put kept one all =
+    subst (All P) (sym put) (All-insert_of P message old one all)
+All-after_insert P (Err e) message old new put kept one all = subst (All P) (sym kept) all
 
 -- a place with all lesser keys before it, and no other key
 pub record IsPlaceFor (key : Key) (messages : List Stamped) (place : ℕ) : Type 0 where

@@ -1,4 +1,4 @@
-use Rattle.std.proofs.Common.{◌≡◌, sym, ◌∙◌, subst}
+use Rattle.std.proofs.Common.{sym, ◌∙◌, subst}
 use Rattle.event_queue.specs.Rising.{IsRising}
 use Rattle.event_queue.proofs.RisingLaws.{inserted, IsRising-insert_of}
 use Rattle.event_queue.proofs.queue.Queue.insert.Goals.{in-Ok, in-Err}
