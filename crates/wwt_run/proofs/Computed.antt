@@ -43,7 +43,7 @@ starts_so : (machine : MachineParts) (bytes : List ℕ) → 0 < machine.private_
 unfolding start_node
 starts_so machine bytes some =
     ap (λ private. start_with machine 0 0 private (homes_of machine (loaded_with machine (flat_image bytes 0 ∷ [])) 0) false)
-    (laid machine.private_bytes (nat_le 0 0 && nat_lt 0 (0 + length (replicate machine.private_bytes 0))) bytes (let size = length-replicate machine.private_bytes 0 in grind (arith, nat_tests)))
+    (laid machine.private_bytes (nat_le 0 0 && nat_lt 0 (0 + length (replicate machine.private_bytes 0))) bytes (let size : length (replicate machine.private_bytes 0) ≡ machine.private_bytes = length-replicate {A = ℕ} machine.private_bytes 0 in grind (arith, nat_tests)))
 
 start_is : (bytes : List ℕ) → start_node flat_machine (flat_loaded bytes) false 0 ≡ flat_start bytes
 start_is bytes = starts_so flat_machine bytes (omega arith)

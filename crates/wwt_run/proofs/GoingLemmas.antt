@@ -1,18 +1,17 @@
 -- A node whose next step is above all that it has handled may do it, and goes on so.
-use Rattle.std.proofs.Common.{◌≡◌, ℕ, suc, ◌+◌, ◌<◌, ◌≤◌, Bool, true, false, cond, Option, Some, None, refl, ap, sym, ◌∙◌, subst, arith}
-use Rattle.std.specs.Prelude.{◌&&◌, not, nat_lt, ◌==◌}
+use Rattle.std.proofs.Common.{◌≡◌, ℕ, ◌+◌, ◌<◌, Bool, true, false, cond, Some, None, refl, arith}
+use Rattle.std.specs.Prelude.{◌&&◌, not, nat_lt}
 use Rattle.std.proofs.lemmas.Bool.Decides.{nat_tests}
 use Rattle.wt_params.specs.declared.parts.MachineParts.{MachineParts}
-use Rattle.wt_proto.specs.declared.key.Key.{Key}
 use Rattle.wt_proto.specs.declared.mode.Mode.{Mode}
 use Rattle.wt_proto.specs.declared.mode.Mode.TheVariants.{Running, Waiting, InBarrier, Stopped}
 use Rattle.discrete_events.specs.Simulation.{Step, step_key}
 use Rattle.discrete_events.specs.World.{is_spent, counts_below}
-use Rattle.discrete_events.specs.Laws.{IsAfter, IsDue}
+use Rattle.discrete_events.specs.Laws.{IsAfter}
 use Rattle.node.specs.declared.state.NodeState.{NodeState}
 use Rattle.node.specs.State.{events_of, is_running_in, step_in, step_time, next_step_of, next_key}
-use Rattle.node.specs.React.{react, react_to_step, wind_tunnel}
-use Rattle.node.specs.Laws.{Fits, IsDueAt}
+use Rattle.node.specs.React.{react, wind_tunnel}
+use Rattle.node.specs.Laws.{IsDueAt}
 use Rattle.node.specs.Sound.{IsNode}
 use Rattle.node.proofs.EventKept.{machines_are_simulations}
 use Rattle.wwt_run.specs.Alone.{has_step, due_in}

@@ -1,5 +1,5 @@
 -- A node alone, of a machine without shared memory, sends nothing at its steps.
-use Rattle.std.proofs.Common.{◌≡◌, ℕ, ◌+◌, ◌*◌, ◌<◌, ◌≤◌, Bool, true, false, cond, eqb, List, [], Option, Some, None, Result, Ok, Err, refl, ap, ◌∙◌, sym, arith}
+use Rattle.std.proofs.Common.{◌≡◌, ℕ, ◌+◌, ◌*◌, Bool, true, false, cond, eqb, List, [], Option, Some, None, Result, Ok, Err, refl, ap, arith}
 use Rattle.std.specs.Prelude.{◌==◌, ◌&&◌, nat_le, nat_lt}
 use Rattle.std.proofs.lemmas.Bool.Decides.{nat_tests}
 use Rattle.wt_params.specs.declared.parts.MachineParts.{MachineParts}
@@ -17,9 +17,8 @@ use Rattle.discrete_events.specs.Simulation.{Step}
 use Rattle.node.specs.declared.state.NodeState.{NodeState}
 use Rattle.node.specs.State.{register, next_key, step_time}
 use Rattle.node.specs.Handled.{Handled}
-use Rattle.node.specs.SharedAccess.{shared_load_of, shared_store_of}
 use Rattle.node.specs.PrivateAccess.{load_by, load_from, store_by, store_to}
-use Rattle.node.specs.Annotation.{annotate_block, annotate_of}
+use Rattle.node.specs.Annotation.{annotate_of}
 use Rattle.node.specs.Call.{barrier_call_of, exit_of, call_of}
 use Rattle.node.specs.Processor.{fetch_of, meaning_in, effect_by, execute_of, step_by, step_of}
 use Rattle.node.specs.React.{counted_step, stamped_from, react_to_step, react}

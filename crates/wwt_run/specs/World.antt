@@ -1,5 +1,5 @@
 -- The whole machine at a moment, which is a world of its simulation, and at its start. Own.
-use Rattle.std.specs.Prelude.{ℕ, Bool, List, map}
+use Rattle.std.specs.Prelude.{Bool, List, map}
 use Rattle.std.specs.List.{range_with_len}
 use Rattle.std.specs.FinMap.{empty}
 use Rattle.wt_params.specs.declared.parts.MachineParts.{MachineParts}
