@@ -77,6 +77,10 @@ gives_back machine time (Some line) = give_back_of machine time line ∷ []
 abbrev pub handled_with : NodeState → List Send → Course → Handled
 handled_with node sends course = record { node = node; sends = sends; deed = course.deed; trap = course.trap }
 
+-- a step, which never traps
+abbrev pub stepped_with : NodeState → List Send → Deed → Handled
+stepped_with node sends deed = record { node = node; sends = sends; deed = deed; trap = None }
+
 -- this is the node, these messages were added, and this was recorded
 pub record IsHandled (handled : Handled) (now : NodeState) (before after : List Send) (course : Course) : Type 0 where
   pub node : now ≡ handled.node

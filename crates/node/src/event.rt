@@ -1,7 +1,7 @@
 ghost use Rattle.std.specs.Prelude.{◌≡◌, ℕ, ◌+◌, ◌^◌, ◌<◌, ◌≤◌, true, Some, [], ◌∷◌, ◌++◌, length, IfOk, OnOk};
 ghost use Rattle.wt_proto.specs.Messages.{StampedFits, key_of};
 ghost use Rattle.node.specs.State.{events_of, step_time, next_step_of};
-ghost use Rattle.node.specs.Handled.{IsHandled, handled_with};
+ghost use Rattle.node.specs.Handled.{IsHandled, handled_with, stepped_with};
 ghost use Rattle.node.specs.React.{stamped, stamped_from, counted_step, counted_message, message_of, react_with, react_to_step, react_to_message};
 ghost use Rattle.node.specs.Sound.{IsNode, IsSendable, AreSendable, MayStamp};
 
@@ -11,7 +11,7 @@ use target_cache::Line;
 use wt_network::stamp;
 use wt_params::{Machine, NoMemory};
 use wt_proto::{Body, Key, Mode, Stamped, StampedList};
-use wt_trace::{Record, What};
+use wt_trace::{Deed, Record, What};
 
 impl NodeState {
     /// Handles the processor's next step.
@@ -44,9 +44,7 @@ impl NodeState {
         if !self.traced {
             return self.send_off(machine, &sends, out);
         }
-        let what = What::Step { pc, word };
-        let course = Course { deed, trap: None };
-        self.end_traced(alloc, machine, key, what, course, &sends, out)
+        self.end_traced_step(alloc, machine, key, pc, word, deed, &sends, out)
     }
 
     /// Handles a message.
@@ -139,6 +137,29 @@ impl NodeState {
         }
     }
 
+    /// Records a step of a traced node, and sends its messages off. A function of its own, so that an untraced step
+    /// makes no record.
+    fn end_traced_step(
+        &mut self,
+        alloc: Global,
+        machine: &Machine,
+        key: Key,
+        pc: u32,
+        word: Option<u32>,
+        deed: Deed,
+        sends: &SendList,
+        out: &mut StampedList,
+    ) -> Result<(), NoMemory>
+        requires traced { self.old.traced ≡ true }
+        requires stamps { MayStamp machine.now self.old sends.now }
+        ensures node { OnOk result (self.new ≡ (react_with machine.now key (What.Step pc word) (stepped_with self.old sends.now deed)).0) }
+        ensures sends { OnOk result (out.new ≡ out.old ++ (react_with machine.now key (What.Step pc word) (stepped_with self.old sends.now deed)).1) }
+    {
+        let what = What::Step { pc, word };
+        let course = Course { deed, trap: None };
+        self.end_traced(alloc, machine, key, what, course, sends, out)
+    }
+
     /// Records an event of a traced node, and sends its messages off.
     fn end_traced(
         &mut self,
@@ -204,6 +225,9 @@ impl NodeState {
         }) }
         ensures sends { OnOk result (out.new ≡ out.old ++ stamped_from machine.now self.old.number self.old.counters.sent sends.now) }
     {
+        if sends.is_empty() {
+            return Ok(());
+        }
         stamp_all(machine, self.number, self.counters.sent, sends, out)?;
         self.counters.sent += sends.len();
         Ok(())

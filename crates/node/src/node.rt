@@ -88,8 +88,7 @@ impl Node {
         if self.broken {
             return Err(NoMemory);
         }
-        let machine = self.machine;
-        match self.state.handle_step(self.alloc, &machine, out) {
+        match self.state.handle_step(self.alloc, &self.machine, out) {
             Ok(()) => Ok(()),
             Err(NoMemory) => {
                 self.broken = true;
@@ -114,10 +113,9 @@ impl Node {
         if self.broken {
             return Err(NoMemory);
         }
-        let machine = self.machine;
         match self
             .state
-            .handle_message(self.alloc, &machine, message, out)
+            .handle_message(self.alloc, &self.machine, message, out)
         {
             Ok(()) => Ok(()),
             Err(NoMemory) => {
@@ -218,6 +216,6 @@ impl Node {
         ensures sound { IsWhole self.now → IsNode self.now.machine self.now.state }
     {
         let counters = &self.state.counters;
-        self.machine.event_limit().checked_sub(counters.messages) == Some(counters.steps)
+        counters.steps.saturating_add(counters.messages) == self.machine.event_limit()
     }
 }
