@@ -1,0 +1,439 @@
+ghost use Rattle.std.specs.Prelude.{◌≡◌, ◌<◌, true, IfOk, IfSome};
+ghost use Rattle.image_loader.specs.Images.{IsFor};
+ghost use Rattle.discrete_events.specs.Simulation.{Step, Arrival};
+ghost use Rattle.discrete_events.specs.Laws.{IsAfter};
+ghost use Rattle.wt_proto.specs.Messages.{MsgFits, key_of};
+ghost use Rattle.node.specs.Laws.{IsWhole, MayHandle};
+ghost use Rattle.node.specs.React.{message_under_key};
+ghost use Rattle.node.specs.Sound.{IsNode};
+ghost use Rattle.node.specs.State.{next_key};
+
+use super::*;
+use crate::rows::{
+    Act, CALL, Case, LOAD, Mail, Of, Says, annotations, barriers, blocks, reads, shared_load, traps,
+};
+use elf_image::read_flat;
+use image_loader::{Loaded, load};
+use std::alloc::Global;
+use std::cmp::Ordering;
+use std::process::Abort;
+use std::test::Fail;
+use wt_params::{CostParts, Machine, MachineParts, NoMemory};
+use wt_proto::{Block, Body, Key, Mode, Msg, Stamped, StampedList};
+use wt_stats::Counters;
+use wt_trace::{Deed, What};
+
+/// A machine with four blocks of 16 bytes, and a cache of two sets of one way.
+fn machine_of(nodes: u64) -> Option<Machine> {
+    let costs = CostParts {
+        op: 1,
+        taken: 2,
+        mem: 1,
+        hit: 1,
+        cico: 1,
+        call: 1,
+        fill: 4,
+        trap: 250,
+        trap_each: 5,
+    };
+    Machine::new(MachineParts {
+        nodes,
+        private_bytes: 4096,
+        block_bytes: 16,
+        blocks: 4,
+        sets: 2,
+        ways: 1,
+        latency: 100,
+        self_latency: 10,
+        quantum: 100,
+        event_limit: 1000,
+        budget: 1000,
+        costs,
+    })
+    .ok()
+}
+
+/// An image of words for every node.
+fn loaded_of(alloc: Global, machine: &Machine, words: &[u32]) -> Result<Option<Loaded>, NoMemory>
+    ensures { IfOk result (λ loaded. IfSome loaded (IsFor machine.now)) }
+{
+    let mut bytes = Vec::new(alloc);
+    for word in words {
+        for byte in word.to_le_bytes() {
+            bytes.push(byte)?;
+        }
+    }
+    if bytes.len() > 4096 {
+        return Ok(None);
+    }
+    let mut images = Vec::new(alloc);
+    images.push(read_flat(alloc, bytes, 0)?)?;
+    Ok(load(machine, images).ok())
+}
+
+fn block_of(first: u32) -> Block {
+    let mut block = Block::new(&[0; 16]);
+    block.overwrite(0, &first.to_le_bytes());
+    block
+}
+
+fn body_of(says: Says) -> Body {
+    match says {
+        Says::GetS => Body::GetS,
+        Says::GetX => Body::GetX { had: false },
+        Says::Upgrade => Body::GetX { had: true },
+        Says::PutS => Body::PutS,
+        Says::PutX(first) => Body::PutX {
+            bytes: block_of(first),
+        },
+        Says::DataS(first) => Body::DataS {
+            bytes: block_of(first),
+        },
+        Says::DataX(first) => Body::DataX {
+            bytes: block_of(first),
+        },
+        Says::Inv => Body::Inv,
+        Says::Ack => Body::InvAck { bytes: None },
+        Says::AckWith(first) => Body::InvAck {
+            bytes: Some(block_of(first)),
+        },
+        Says::Arrive => Body::Arrive,
+        Says::Leave => Body::Leave,
+        Says::Go => Body::Go,
+    }
+}
+
+/// A message on its way from a node to a node.
+fn message_of(mail: Mail, from: u32, to: u32) -> Stamped {
+    let (time, _, sequence, block, says) = mail;
+    Stamped {
+        time,
+        to,
+        from,
+        sequence,
+        msg: Msg {
+            block,
+            body: body_of(says),
+        },
+    }
+}
+
+/// Whether the machine can have a message.
+fn fits(machine: &Machine, msg: &Msg) -> bool
+    ensures { result ≡ true → MsgFits machine.now msg.now }
+{
+    let bytes = match &msg.body {
+        Body::Arrive | Body::Leave | Body::Go => return msg.block == 0,
+        Body::PutX { bytes } | Body::DataS { bytes } | Body::DataX { bytes } => Some(bytes),
+        Body::InvAck { bytes } => bytes.as_ref(),
+        _ => None,
+    };
+    (msg.block as u64) < machine.blocks()
+        && bytes.is_none_or(|bytes| bytes.bytes().len() as u64 == machine.block_bytes())
+}
+
+/// Whether a key is above the last one.
+fn is_after(last: Option<Key>, key: Key) -> bool
+    ensures { result ≡ true → IsAfter last key }
+{
+    match last {
+        Some(last) => last.cmp(&key) == Ordering::Less,
+        None => true,
+    }
+}
+
+/// Whether the node may do its next step.
+fn may_step(machine: &Machine, number: u32, node: &Node) -> bool
+    requires machine { node.now.machine ≡ machine.now }
+    requires number { IsWhole node.now → node.now.state.number ≡ number }
+    ensures due { result ≡ true → MayHandle node.now (next_key node.now.machine node.now.state) Step }
+    ensures sound { result ≡ true → IsWhole node.now → IsNode node.now.machine node.now.state }
+{
+    let Some(time) = node.next_step() else {
+        return false;
+    };
+    let key = Key {
+        time,
+        to: number,
+        from: machine.nodes() as u32,
+        sequence: 0,
+    };
+    !node.spent() && time < machine.budget() && is_after(node.last(), key)
+}
+
+/// Does the node's next step, where it may.
+fn step(
+    machine: &Machine,
+    number: u32,
+    node: &mut Node,
+    out: &mut StampedList,
+) -> Result<bool, NoMemory>
+    requires machine { node.old.machine ≡ machine.now }
+    requires number { IsWhole node.old → node.old.state.number ≡ number }
+    ensures machine { node.new.machine ≡ machine.now }
+    ensures number { IsWhole node.new → node.new.state.number ≡ number }
+{
+    if !may_step(machine, number, node) {
+        return Ok(false);
+    }
+    node.handle_step(out)?;
+    Ok(true)
+}
+
+/// Whether the node may handle a message now.
+fn may_hear(machine: &Machine, number: u32, node: &Node, message: &Stamped) -> bool
+    requires machine { node.now.machine ≡ machine.now }
+    requires number { IsWhole node.now → node.now.state.number ≡ number }
+    ensures due { result ≡ true → MayHandle node.now (key_of message.now) (Arrival (message_under_key message.now)) }
+    ensures sound { result ≡ true → IsWhole node.now → IsNode node.now.machine node.now.state }
+{
+    if let Some(next) = node.next_step() {
+        if message.time > next {
+            return false;
+        }
+    }
+    if message.to != number
+        || message.from as u64 >= machine.nodes()
+        || !fits(machine, &message.msg)
+    {
+        return false;
+    }
+    !node.spent() && message.time < machine.budget() && is_after(node.last(), message.key())
+}
+
+/// Hands a message to the node, where it may handle it.
+fn hear(
+    machine: &Machine,
+    number: u32,
+    node: &mut Node,
+    message: &Stamped,
+    out: &mut StampedList,
+) -> Result<bool, NoMemory>
+    requires machine { node.old.machine ≡ machine.now }
+    requires number { IsWhole node.old → node.old.state.number ≡ number }
+    ensures machine { node.new.machine ≡ machine.now }
+    ensures number { IsWhole node.new → node.new.state.number ≡ number }
+{
+    if !may_hear(machine, number, node, message) {
+        return Ok(false);
+    }
+    node.handle_message(message, out)?;
+    Ok(true)
+}
+
+/// Handles an event, which must be due.
+fn handle(
+    rt: &impl Abort,
+    machine: &Machine,
+    number: u32,
+    node: &mut Node,
+    event: Act,
+    out: &mut StampedList,
+) -> Result<(), Fail>
+    requires machine { node.old.machine ≡ machine.now }
+    requires number { IsWhole node.old → node.old.state.number ≡ number }
+    ensures machine { node.new.machine ≡ machine.now }
+    ensures number { IsWhole node.new → node.new.state.number ≡ number }
+{
+    let due = match event {
+        Act::Step => step(machine, number, node, out)?,
+        Act::Hear(mail) => {
+            let message = message_of(mail, mail.1, number);
+            hear(machine, number, node, &message, out)?
+        }
+    };
+    assert!(rt; due, "{event:?} isn't due");
+    Ok(())
+}
+
+/// A node at the start.
+#[tactic(auto, unfolding(crate::specs::Start::start_node))]
+fn start(
+    alloc: Global,
+    machine: &Machine,
+    number: u32,
+    loaded: &Loaded,
+    traced: bool,
+) -> Result<Node, NoMemory>
+    requires number { number < machine.now.nodes }
+    requires images { IsFor machine.now loaded.now }
+    ensures machine { IfOk result (λ node. node.machine ≡ machine.now) }
+    ensures number { IfOk result (λ node. node.state.number ≡ number) }
+{
+    Node::new(alloc, machine, number, loaded, traced)
+}
+
+/// The node of a case after its events.
+fn played(
+    rt: &impl Abort,
+    alloc: Global,
+    case: Case,
+    traced: bool,
+    out: &mut StampedList,
+) -> Result<Node, Fail> {
+    let machine = machine_of(case.nodes).ok_or("no machine")?;
+    let loaded = loaded_of(alloc, &machine, case.words)?.ok_or("no program")?;
+    assert!(rt; (case.number as u64) < machine.nodes());
+    let number = case.number;
+    let mut node = start(alloc, &machine, number, &loaded, traced)?;
+    for event in case.acts {
+        handle(rt, &machine, number, &mut node, *event, out)?;
+    }
+    Ok(node)
+}
+
+/// Runs a case, and looks at all that is told of it.
+fn run(rt: &impl Abort, alloc: Global, case: Case, at: usize) -> Result<(), Fail> {
+    let mut out = StampedList::new(alloc);
+    let node = played(rt, alloc, case, false, &mut out)?;
+    for mail in case.sends {
+        assert_eq!(rt;
+            out.pop_first(),
+            Some(message_of(*mail, case.number, mail.1)),
+            "row {at}"
+        );
+    }
+    assert_eq!(rt; out.pop_first(), None, "row {at}");
+    assert_eq!(rt; *node.mode(), case.mode, "row {at}");
+    assert_eq!(rt; node.pc(), case.pc, "row {at}");
+    assert_eq!(rt; node.regs().get(10), case.x10, "row {at}");
+    assert_eq!(rt; node.next_step(), case.next, "row {at}");
+    assert_eq!(rt; *node.counters(), counters_of(case), "row {at}");
+    assert!(rt; node.log().is_empty(), "row {at}");
+    Ok(())
+}
+
+fn run_all(rt: &impl Abort, alloc: Global, cases: &[Case]) -> Result<(), Fail> {
+    let mut at = 0usize;
+    for case in cases {
+        run(rt, alloc, *case, at)?;
+        at = at.saturating_add(1);
+    }
+    Ok(())
+}
+
+/// The counters of a case.
+fn counters_of(case: Case) -> Counters {
+    let (steps, messages, done) = case.events;
+    let mut counters = Counters::default();
+    counters.steps = steps;
+    counters.messages = messages;
+    counters.done = done;
+    for (of, count) in case.counts {
+        match of {
+            Of::Misses => counters.misses = *count,
+            Of::Upgrades => counters.upgrades = *count,
+            Of::Replaced => counters.replaced = *count,
+            Of::CheckIns => counters.checkins = *count,
+            Of::Invs => counters.invs = *count,
+            Of::Traps => counters.traps = *count,
+            Of::TrapCycles => counters.trap_cycles = *count,
+            Of::Barriers => counters.barriers = *count,
+            Of::Stray => counters.stray = *count,
+            Of::Sent => counters.sent = *count,
+        }
+    }
+    counters
+}
+
+#[test]
+fn each_event_by_worked_rows(rt: HostRuntime) -> Result<(), Fail> {
+    let alloc = rt.alloc();
+    run_all(&rt, alloc, &shared_load())?;
+    run_all(&rt, alloc, &annotations())?;
+    run_all(&rt, alloc, &blocks())?;
+    run_all(&rt, alloc, &barriers())
+}
+
+/// Looks at the record of an event: its key, what it was and did, the cycles of its trap, and the first message that it
+/// sent.
+fn has_record(
+    rt: &impl Abort,
+    node: &Node,
+    at: u64,
+    key: (u64, u32, u32, u64),
+    told: (What, Deed, Option<u64>, Option<Stamped>),
+) -> Result<(), Fail> {
+    let record = node.log().get(at).ok_or("no record")?;
+    let (what, deed, trap, first) = told;
+    let Key {
+        time,
+        to,
+        from,
+        sequence,
+    } = record.key;
+    assert_eq!(rt; (time, to, from, sequence), key);
+    assert_eq!(rt; record.what, what);
+    assert_eq!(rt; record.deed, deed);
+    assert_eq!(rt; record.trap, trap);
+    assert_eq!(rt; record.sends.get(0).map(|sent| sent.copy()), first);
+    Ok(())
+}
+
+#[test]
+fn a_traced_node_has_a_record_of_each_event(rt: HostRuntime) -> Result<(), Fail> {
+    let alloc = rt.alloc();
+    let mut out = StampedList::new(alloc);
+    let node = played(&rt, alloc, reads(), true, &mut out)?;
+    assert_eq!(rt; node.log().len(), 3);
+    let asked = What::Step {
+        pc: 4,
+        word: Some(LOAD),
+    };
+    let first = message_of((101, 0, 0, 0, Says::GetS), 1, 0);
+    has_record(
+        &rt,
+        &node,
+        1,
+        (1, 1, 2, 0),
+        (asked, Deed::Plain, None, Some(first)),
+    )?;
+    let came = What::Message {
+        msg: message_of((201, 0, 1, 0, Says::DataS(0)), 0, 1).msg,
+    };
+    let loaded = Deed::Loaded {
+        address: 0x8000_0000,
+        value: 0,
+    };
+    has_record(&rt, &node, 2, (201, 1, 0, 1), (came, loaded, None, None))?;
+
+    let delayed = played(&rt, alloc, traps(), true, &mut out)?;
+    let came = What::Message {
+        msg: message_of((2, 2, 0, 0, Says::GetX), 2, 0).msg,
+    };
+    let first = message_of((357, 1, 1, 0, Says::Inv), 0, 1);
+    has_record(
+        &rt,
+        &delayed,
+        2,
+        (2, 0, 2, 0),
+        (came, Deed::Plain, Some(255), Some(first)),
+    )?;
+    assert_eq!(rt; (delayed.ready(), delayed.busy()), (259, 257));
+    Ok(())
+}
+
+#[test]
+fn one_byte_is_put_out(rt: HostRuntime) -> Result<(), Fail> {
+    let alloc = rt.alloc();
+    let mut out = StampedList::new(alloc);
+    // x10 becomes 0x41, x17 becomes 1.
+    let case = Case {
+        nodes: 1,
+        words: &[0x0410_0513, 0x0010_0893, CALL],
+        acts: &[Act::Step, Act::Step, Act::Step],
+        number: 0,
+        sends: &[],
+        mode: Mode::Running,
+        pc: 12,
+        x10: 0x41,
+        next: Some(3),
+        events: (3, 0, 3),
+        counts: &[],
+    };
+    let node = played(&rt, alloc, case, false, &mut out)?;
+    assert_eq!(rt; node.output(), [0x41].as_slice());
+    assert_eq!(rt; node.private().bytes().len(), 4096);
+    assert_eq!(rt; node.private().load(0, 4), Ok(0x0410_0513));
+    Ok(())
+}
