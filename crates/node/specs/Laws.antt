@@ -1,5 +1,5 @@
 -- The wind tunnel as a simulation: which nodes and messages are sound, and which events a node may handle. Own.
-use Rattle.std.specs.Prelude.{◌≡◌, Bool, false}
+use Rattle.std.specs.Prelude.{◌≡◌, Bool, false, List, []}
 use Rattle.wt_params.specs.declared.parts.MachineParts.{MachineParts}
 use Rattle.wt_params.specs.Machine.{IsMachine}
 use Rattle.wt_proto.specs.declared.key.Key.{Key}
@@ -9,6 +9,7 @@ use Rattle.wt_proto.specs.Messages.{StampedFits}
 use Rattle.discrete_events.specs.Simulation.{Event, Message}
 use Rattle.discrete_events.specs.Laws.{IsDue, IsSimulation, IsConservative}
 use Rattle.node.specs.declared.state.NodeState.{NodeState}
+use Rattle.node.specs.declared.state.Send.{Send}
 use Rattle.node.specs.React.{wind_tunnel}
 use Rattle.node.specs.Sound.{IsNode}
 
@@ -45,9 +46,9 @@ pub record NodeModel : Type 0 where
   pub state : NodeState
   pub broken : Bool
 
--- Nothing is known of the state of a broken node.
-abbrev pub IsSoundNode : MachineParts → NodeState → Bool → Type 0
-IsSoundNode machine state broken = broken ≡ false → IsNode machine state
+-- A node that isn't broken is sound, and has no messages to send between events. Nothing is known of a broken one.
+abbrev pub IsSoundNode : MachineParts → NodeState → List Send → Bool → Type 0
+IsSoundNode machine state sends broken = broken ≡ false → IsNode machine state × (sends ≡ [])
 
 abbrev pub IsWhole : NodeModel → Type 0
 IsWhole node = node.broken ≡ false

@@ -20,14 +20,17 @@ impl NodeState {
         &mut self,
         alloc: Global,
         machine: &Machine,
+        sends: &mut SendList,
         out: &mut StampedList,
     ) -> Result<(), NoMemory>
+        requires none_yet { sends.old ≡ [] }
         requires node { IsNode machine.now self.old }
         requires running { self.old.mode ≡ Mode.Running }
         requires unspent { events_of self.old < machine.now.event_limit }
         requires early { step_time self.old < machine.now.budget }
         ensures node { OnOk result (self.new ≡ (react_to_step machine.now self.old).0) }
         ensures sends { OnOk result (out.new ≡ out.old ++ (react_to_step machine.now self.old).1) }
+        ensures none_left { OnOk result (sends.new ≡ []) }
     {
         let time = self.ready.max(self.busy);
         let key = Key {
@@ -39,12 +42,11 @@ impl NodeState {
         let pc = self.pc;
         let word = self.fetch(machine);
         self.count_step(key);
-        let mut sends = SendList::new(alloc);
-        let deed = self.step(machine, time, word, &mut sends)?;
+        let deed = self.step(machine, time, word, sends)?;
         if !self.traced {
-            return self.send_off(machine, &sends, out);
+            return self.send_off(alloc, machine, sends, out);
         }
-        self.end_traced_step(alloc, machine, key, pc, word, deed, &sends, out)
+        self.end_traced_step(alloc, machine, key, pc, word, deed, sends, out)
     }
 
     /// Handles a message.
@@ -54,8 +56,10 @@ impl NodeState {
         alloc: Global,
         machine: &Machine,
         message: &Stamped,
+        sends: &mut SendList,
         out: &mut StampedList,
     ) -> Result<(), NoMemory>
+        requires none_yet { sends.old ≡ [] }
         requires node { IsNode machine.now self.old }
         requires unspent { events_of self.old < machine.now.event_limit }
         requires early { message.now.time < machine.now.budget }
@@ -63,18 +67,18 @@ impl NodeState {
         requires first { (next : ℕ) → next_step_of self.old ≡ Some next → message.now.time ≤ next }
         ensures node { OnOk result (self.new ≡ (react_to_message machine.now self.old (key_of message.now) message.now.msg).0) }
         ensures sends { OnOk result (out.new ≡ out.old ++ (react_to_message machine.now self.old (key_of message.now) message.now.msg).1) }
+        ensures none_left { OnOk result (sends.new ≡ []) }
     {
         let key = message.key();
         self.count_message(key);
-        let mut sends = SendList::new(alloc);
-        let course = self.receive(alloc, machine, message, &mut sends)?;
+        let course = self.receive(alloc, machine, message, sends)?;
         if !self.traced {
-            return self.send_off(machine, &sends, out);
+            return self.send_off(alloc, machine, sends, out);
         }
         let what = What::Message {
             msg: message.msg.copy(),
         };
-        self.end_traced(alloc, machine, key, what, course, &sends, out)
+        self.end_traced(alloc, machine, key, what, course, sends, out)
     }
 
     /// Counts a step under its key.
@@ -147,13 +151,14 @@ impl NodeState {
         pc: u32,
         word: Option<u32>,
         deed: Deed,
-        sends: &SendList,
+        sends: &mut SendList,
         out: &mut StampedList,
     ) -> Result<(), NoMemory>
         requires traced { self.old.traced ≡ true }
-        requires stamps { MayStamp machine.now self.old sends.now }
-        ensures node { OnOk result (self.new ≡ (react_with machine.now key (What.Step pc word) (stepped_with self.old sends.now deed)).0) }
-        ensures sends { OnOk result (out.new ≡ out.old ++ (react_with machine.now key (What.Step pc word) (stepped_with self.old sends.now deed)).1) }
+        requires stamps { MayStamp machine.now self.old sends.old }
+        ensures node { OnOk result (self.new ≡ (react_with machine.now key (What.Step pc word) (stepped_with self.old sends.old deed)).0) }
+        ensures sends { OnOk result (out.new ≡ out.old ++ (react_with machine.now key (What.Step pc word) (stepped_with self.old sends.old deed)).1) }
+        ensures none_left { OnOk result (sends.new ≡ []) }
     {
         let what = What::Step { pc, word };
         let course = Course { deed, trap: None };
@@ -168,16 +173,17 @@ impl NodeState {
         key: Key,
         what: What,
         course: Course,
-        sends: &SendList,
+        sends: &mut SendList,
         out: &mut StampedList,
     ) -> Result<(), NoMemory>
         requires traced { self.old.traced ≡ true }
-        requires stamps { MayStamp machine.now self.old sends.now }
-        ensures node { OnOk result (self.new ≡ (react_with machine.now key what (handled_with self.old sends.now course)).0) }
-        ensures sends { OnOk result (out.new ≡ out.old ++ (react_with machine.now key what (handled_with self.old sends.now course)).1) }
+        requires stamps { MayStamp machine.now self.old sends.old }
+        ensures node { OnOk result (self.new ≡ (react_with machine.now key what (handled_with self.old sends.old course)).0) }
+        ensures sends { OnOk result (out.new ≡ out.old ++ (react_with machine.now key what (handled_with self.old sends.old course)).1) }
+        ensures none_left { OnOk result (sends.new ≡ []) }
     {
         self.record(alloc, machine, key, what, course, sends)?;
-        self.send_off(machine, sends, out)
+        self.send_off(alloc, machine, sends, out)
     }
 
     /// Adds the record of an event to the log.
@@ -215,21 +221,24 @@ impl NodeState {
     /// Stamps and counts the messages of an event, and adds them to `out`.
     fn send_off(
         &mut self,
+        alloc: Global,
         machine: &Machine,
-        sends: &SendList,
+        sends: &mut SendList,
         out: &mut StampedList,
     ) -> Result<(), NoMemory>
-        requires { MayStamp machine.now self.old sends.now }
+        requires { MayStamp machine.now self.old sends.old }
         ensures node { OnOk result (self.new ≡ record self.old {
-          counters = record (self.old.counters) { sent = self.old.counters.sent + length sends.now };
+          counters = record (self.old.counters) { sent = self.old.counters.sent + length sends.old };
         }) }
-        ensures sends { OnOk result (out.new ≡ out.old ++ stamped_from machine.now self.old.number self.old.counters.sent sends.now) }
+        ensures sends { OnOk result (out.new ≡ out.old ++ stamped_from machine.now self.old.number self.old.counters.sent sends.old) }
+        ensures none_left { OnOk result (sends.new ≡ []) }
     {
         if sends.is_empty() {
             return Ok(());
         }
         stamp_all(machine, self.number, self.counters.sent, sends, out)?;
         self.counters.sent += sends.len();
+        *sends = SendList::new(alloc);
         Ok(())
     }
 }

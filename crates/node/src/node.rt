@@ -9,7 +9,7 @@ ghost use Rattle.node.specs.Sound.{IsNode, WaitsForABlock};
 ghost use Rattle.node.specs.Start.{start_node};
 ghost use Rattle.node.specs.State.{next_key, next_step_of};
 
-use crate::state::NodeState;
+use crate::state::{NodeState, SendList};
 use dir1sw::Directory;
 use image_loader::Loaded;
 use priv_mem::PrivMem;
@@ -29,6 +29,8 @@ pub struct Node {
     alloc: Global,
     machine: Machine,
     state: NodeState,
+    /// The messages of the event that is handled. None between events, so that no event makes a list of its own.
+    sends: SendList,
     broken: bool,
 }
 
@@ -39,7 +41,7 @@ impl Model for Node {
 
     ghost view = { λ node. record { machine = node.machine; state = node.state; broken = node.broken } };
 
-    ghost invariant = { λ node. IsSoundNode node.machine node.state node.broken };
+    ghost invariant = { λ node. IsSoundNode node.machine node.state node.sends node.broken };
 }
 
 impl Node {
@@ -62,6 +64,7 @@ impl Node {
             alloc,
             machine: *machine,
             state,
+            sends: SendList::new(alloc),
             broken: false,
         })
     }
@@ -88,7 +91,10 @@ impl Node {
         if self.broken {
             return Err(NoMemory);
         }
-        match self.state.handle_step(self.alloc, &self.machine, out) {
+        match self
+            .state
+            .handle_step(self.alloc, &self.machine, &mut self.sends, out)
+        {
             Ok(()) => Ok(()),
             Err(NoMemory) => {
                 self.broken = true;
@@ -115,7 +121,7 @@ impl Node {
         }
         match self
             .state
-            .handle_message(self.alloc, &self.machine, message, out)
+            .handle_message(self.alloc, &self.machine, message, &mut self.sends, out)
         {
             Ok(()) => Ok(()),
             Err(NoMemory) => {

@@ -435,5 +435,7 @@ fn one_byte_is_put_out(rt: HostRuntime) -> Result<(), Fail> {
     assert_eq!(rt; node.output(), [0x41].as_slice());
     assert_eq!(rt; node.private().bytes().len(), 4096);
     assert_eq!(rt; node.private().load(0, 4), Ok(0x0410_0513));
+    let _cache = node.cache();
+    let _directory = node.directory();
     Ok(())
 }
