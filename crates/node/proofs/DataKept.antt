@@ -65,7 +65,7 @@ module _ (machine : MachineParts) (time seen : ℕ) (old : NodeState) (is : HasB
       CacheFits machine cache → CountsFit machine counters → counters.steps ≡ old.counters.steps → counters.messages ≡ old.counters.messages → counters.sent ≡ old.counters.sent →
       All (SendFits machine time) handled.sends → length handled.sends ≤ machine.nodes + 1 → Went machine time time old handled
   resumes registers cache counters handled node fits counts steps messages sent sends few = record {
-    still = rw node (record { number = refl; steps = steps; messages = messages; sent = sent; last = refl; traced = refl });
+    still = rw node (record { number = refl; steps = steps; messages = messages; sent = sent; last = refl; traced = refl; log = refl });
     sound = rw node (went_on machine seen old is registers (address_after old.pc) (time + machine.costs.fill) old.private cache counters old.output (after_aligned old.pc is.aligned)
         (let most = is.numbers.costs.fill.at_most in omega arith) is.private fits counts messages (omega (arith, steps, messages)) Running refl);
     sends = sends;

@@ -29,9 +29,10 @@ use Rattle.node.specs.Handled.{Handled, IsHandled, IsStepped}
 use Rattle.node.specs.Processor.{fetch_of, step_by, step_of}
 use Rattle.node.specs.DirectoryMessage.{directory_message_of}
 use Rattle.node.specs.DataMessage.{data_message_of}
-use Rattle.node.specs.React.{stamped_from, counted_step, counted_message, message_by, message_of, ended, sends_of, react_with, react_to_step, react_to_message, react, message_under_key, wind_tunnel}
+use Rattle.wt_trace.specs.declared.record.What.TheVariants as whats
+use Rattle.node.specs.React.{stamped_from, counted_step, counted_message, message_by, message_of, logged, ended, sends_of, react_with, next_handled, next_what, react_to_step, message_handled, react_to_message, react, record_with, record_of, message_under_key, wind_tunnel}
 use Rattle.node.specs.Sound.{IsNode, ModeFits, SendFits, AreSendable, MayStamp}
-use Rattle.node.specs.Laws.{Fits, MachinesAreSimulations}
+use Rattle.node.specs.Laws.{Fits, IsDueAt, AreNumbered, IsCounted, MachinesAreSimulations}
 use Rattle.node.proofs.Kept.{HasBegun, Went, step_in_is}
 use Rattle.node.proofs.StepKept.{step_kept}
 use Rattle.node.proofs.MessageKept.{strays, inv_kept, arrive_kept, leave_kept, go_kept, directory_kept}
@@ -263,11 +264,68 @@ module _ (machine : MachineParts) (numbers : IsMachine machine) where
       reacts node key Step is due = steps node key is due
       reacts node key (Arrival message) is due = arrives node key message is due
 
+numbered : (machine : MachineParts) (from sequence : ℕ) (sends : List Send) → AreNumbered sequence (stamped_from machine from sequence sends)
+numbered machine from sequence [] = tt
+numbered machine from sequence (send ∷ sends) = (refl, numbered machine from (sequence + 1) sends)
+
+stamped_length : (machine : MachineParts) (from sequence : ℕ) (sends : List Send) → length (stamped_from machine from sequence sends) ≡ length sends
+stamped_length machine from sequence [] = refl
+stamped_length machine from sequence (send ∷ sends) = ap suc (stamped_length machine from (sequence + 1) sends)
+
+module _ (machine : MachineParts) (numbers : IsMachine machine) (node : NodeState) (key : Key) (is : IsNode machine node) where
+  counts_step : IsDue (wind_tunnel machine) (Fits machine) node key Step → IsCounted machine node key Step
+  unfolding react_to_step record_of
+  counts_step due = record {
+    messages = went.still.messages ∙ sym (plus_none node.counters.messages);
+    sent = (λ i. went.still.sent i + sym (stamped_length machine (next_handled machine node).node.number (next_handled machine node).node.counters.sent (next_handled machine node).sends) i);
+    numbered = subst (λ (n : ℕ). AreNumbered n (sends_of machine (next_handled machine node))) went.still.sent (numbered machine (next_handled machine node).node.number (next_handled machine node).node.counters.sent (next_handled machine node).sends);
+    traced = went.still.traced;
+    log = (λ i. logged (went.still.traced i) (record_with machine (next_key machine node) (next_what machine node) (next_handled machine node)) (went.still.log i));
+    recorded_key = sym its_key;
+    recorded_sends = refl;
+  }
+    where
+      at : step_time node ≡ key.time
+      at = step_in_is node.mode (step_time node) key.time due.its_own.0
+
+      its_key : key ≡ next_key machine node
+      its_key = due.its_own.1 ∙ ap (step_key (wind_tunnel machine) node) (sym at)
+
+      went : Went machine (step_time node) (suc (step_time node)) (counted_step (next_key machine node) node) (next_handled machine node)
+      went = step_went machine node is due.unspent (runs node.mode (step_time node) key.time due.its_own.0) (let e = due.early in let most = numbers.budget.at_most in omega (arith, at)) (next_key machine node)
+
+      plus_none : (n : ℕ) → n + 0 ≡ n
+      plus_none n = omega arith
+
+  counts_message : (message : Message Msg) → IsDue (wind_tunnel machine) (Fits machine) node key (Arrival message) → IsCounted machine node key (Arrival message)
+  unfolding react_to_message record_of
+  counts_message message due = record {
+    messages = went.still.messages;
+    sent = (λ i. went.still.sent i + sym (stamped_length machine handled.node.number handled.node.counters.sent handled.sends) i);
+    numbered = subst (λ (n : ℕ). AreNumbered n (sends_of machine handled)) went.still.sent (numbered machine handled.node.number handled.node.counters.sent handled.sends);
+    traced = went.still.traced;
+    log = (λ i. logged (went.still.traced i) (record_with machine message.0 (whats.Message message.1) handled) (went.still.log i));
+    recorded_key = sym due.its_own.0;
+    recorded_sends = refl;
+  }
+    where
+      handled : Handled
+      handled = message_handled machine node message.0 message.1
+
+      went : Went machine message.0.time message.0.time (counted_message message.0 node) handled
+      went = message_went machine node is due.unspent message.0.time message.0.from message.1 message.0 (let e = due.early in let most = numbers.budget.at_most in omega (arith, ap (λ (k : Key). k.time) due.its_own.0)) due.its_own.2.from due.its_own.2.msg
+          (λ next e. subst (λ (k : Key). k.time ≤ next) due.its_own.0 (due.its_own.3 next e))
+
 pub machines_are_simulations : MachinesAreSimulations
 machines_are_simulations machine is = record {
   laws = laws machine is;
   quanta = record { positive = is.quantum.at_least; no_longer = is.quantum.at_most };
+  counts = counts;
 }
+  where
+    counts : (node : NodeState) (key : Key) (event : Event Msg) → IsNode machine node → IsDueAt machine node key event → IsCounted machine node key event
+    counts node key Step sound due = counts_step machine is node key sound due
+    counts node key (Arrival message) sound due = counts_message machine is node key sound message due
 
 -- the messages of an event may be stamped
 times_few : (nodes events limit : ℕ) → nodes ≤ 32 → events ≤ limit → limit ≤ 2 ^ 40 → (nodes + 1) * events ≤ 33 * 2 ^ 40

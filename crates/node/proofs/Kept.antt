@@ -53,6 +53,7 @@ pub record Same (old new : NodeState) : Type 0 where
   pub sent : new.counters.sent ≡ old.counters.sent
   pub last : new.last ≡ old.last
   pub traced : new.traced ≡ old.traced
+  pub log : new.log ≡ old.log
 
 -- an event at a time that was handled: its node is sound, its messages can be sent, and the next step isn't before a time
 pub record Went (machine : MachineParts) (time least : ℕ) (old : NodeState) (handled : Handled) : Type 0 where
@@ -63,7 +64,7 @@ pub record Went (machine : MachineParts) (time least : ℕ) (old : NodeState) (h
   pub later : (next : ℕ) → next_step_of handled.node ≡ Some next → least ≤ next
 
 pub same : (node : NodeState) → Same node node
-same node = record { number = refl; steps = refl; messages = refl; sent = refl; last = refl; traced = refl }
+same node = record { number = refl; steps = refl; messages = refl; sent = refl; last = refl; traced = refl; log = refl }
 
 pub step_in_is : (mode : Mode) (time next : ℕ) → step_in mode time ≡ Some next → time ≡ next
 step_in_is Running time next e = cc

@@ -96,7 +96,7 @@ module _ (machine : MachineParts) (time seen : ℕ) (old : NodeState) (is : HasB
   keeps : (counters : Counters) (handled : Handled) → handled.node ≡ record old { counters = counters } → CountsFit machine counters → counters.steps ≡ old.counters.steps → counters.messages ≡ old.counters.messages → counters.sent ≡ old.counters.sent →
       All (SendFits machine time) handled.sends → length handled.sends ≤ machine.nodes + 1 → Went machine time time old handled
   keeps counters handled node counts steps messages sent sends few = record {
-    still = rw node (record { number = refl; steps = steps; messages = messages; sent = sent; last = refl; traced = refl });
+    still = rw node (record { number = refl; steps = steps; messages = messages; sent = sent; last = refl; traced = refl; log = refl });
     sound = rw node (settled machine seen old is old.mode counters counts messages (omega (arith, steps, messages)) (same_mode machine old old.busy old.directory old.barrier counters old.mode is.mode));
     sends = sends;
     few = few;
@@ -116,7 +116,7 @@ module _ (machine : MachineParts) (time seen : ℕ) (old : NodeState) (is : HasB
   drops : (block : ℕ) (counters : Counters) (handled : Handled) → handled.node ≡ record old { cache = drop_of block old.cache; counters = counters } → CountsFit machine counters → counters.steps ≡ old.counters.steps → counters.messages ≡ old.counters.messages →
       counters.sent ≡ old.counters.sent → All (SendFits machine time) handled.sends → length handled.sends ≤ machine.nodes + 1 → Went machine time time old handled
   drops block counters handled node counts steps messages sent sends few = record {
-    still = rw node (record { number = refl; steps = steps; messages = messages; sent = sent; last = refl; traced = refl });
+    still = rw node (record { number = refl; steps = steps; messages = messages; sent = sent; last = refl; traced = refl; log = refl });
     sound = rw node (record {
       numbers = is.numbers;
       number = is.number;
@@ -173,7 +173,7 @@ module _ (machine : MachineParts) (time seen : ℕ) (old : NodeState) (is : HasB
       }
 
       stays : Same old (with_barrier barrier old)
-      stays = record { number = refl; steps = refl; messages = refl; sent = refl; last = refl; traced = refl }
+      stays = record { number = refl; steps = refl; messages = refl; sent = refl; last = refl; traced = refl; log = refl }
 
       by : (r : Release) → ReleaseFits machine.nodes r → Went machine time time old (release_by time (with_barrier barrier old) r)
       by releases.Hold fits_r = record { still = stays; sound = sound old.counters (let room = is.counts in grind arith) refl refl; sends = all_none (SendFits machine time); few = omega arith; later = due }
@@ -185,7 +185,7 @@ module _ (machine : MachineParts) (time seen : ℕ) (old : NodeState) (is : HasB
         later = due;
       }
       by releases.Stray fits_r = record {
-        still = record { number = refl; steps = refl; messages = refl; sent = refl; last = refl; traced = refl };
+        still = record { number = refl; steps = refl; messages = refl; sent = refl; last = refl; traced = refl; log = refl };
         sound = sound (one_stray old).counters (let room = is.counts in grind arith) refl refl;
         sends = all_none (SendFits machine time);
         few = omega arith;
@@ -220,7 +220,7 @@ module _ (machine : MachineParts) (time seen : ℕ) (old : NodeState) (is : HasB
       by (Waiting block exclusive) at = stray_alone
       by (Stopped cause) at = stray_alone
       by InBarrier at = record {
-        still = record { number = refl; steps = refl; messages = refl; sent = refl; last = refl; traced = refl };
+        still = record { number = refl; steps = refl; messages = refl; sent = refl; last = refl; traced = refl; log = refl };
         sound = went_on machine seen old is old.registers _ (time + machine.costs.call) old.private old.cache (one_barrier (moved_on 0 0 old)).counters old.output (after_aligned old.pc is.aligned)
             (let most = is.numbers.costs.call.at_most in omega arith) is.private is.cache (let room = is.counts in grind arith) refl (omega arith) Running refl;
         sends = all_none (SendFits machine time);
@@ -298,7 +298,7 @@ module _ (machine : MachineParts) (time seen : ℕ) (old : NodeState) (is : HasB
         let events = is.counts.events in
         let limit = is.numbers.event_limit.at_most in
         record {
-          still = record { number = refl; steps = refl; messages = refl; sent = refl; last = refl; traced = refl };
+          still = record { number = refl; steps = refl; messages = refl; sent = refl; last = refl; traced = refl; log = refl };
           sound = sound_after (busy_after machine plan time old.busy) (trapped machine time plan old).counters (omega arith) (let room = is.counts in grind arith) refl;
           sends = rw silent (all_sent machine time (busy_after machine plan time old.busy) _ (omega arith) (omega arith) (trap_fit plan act here));
           few = rw silent (few_sent plan act);
@@ -318,14 +318,14 @@ module _ (machine : MachineParts) (time seen : ℕ) (old : NodeState) (is : HasB
     acts : (act : DirAct) → (row_of old.directory from msg).act ≡ act →
         Went machine time time old (act_by machine time (map (sent_at time) (row_of old.directory from msg).sends) (record old { directory = with_block msg.block (row_of old.directory from msg).home old.directory }) act)
     acts Done is_act = record {
-      still = record { number = refl; steps = refl; messages = refl; sent = refl; last = refl; traced = refl };
+      still = record { number = refl; steps = refl; messages = refl; sent = refl; last = refl; traced = refl; log = refl };
       sound = sound_after old.busy old.counters (let b = is.busy in omega arith) (let room = is.counts in grind arith) refl;
       sends = row_sends;
       few = let few = row_few in let some = is.numbers.nodes.at_least in omega arith;
       later = due;
     }
     acts Stray is_act = record {
-      still = record { number = refl; steps = refl; messages = refl; sent = refl; last = refl; traced = refl };
+      still = record { number = refl; steps = refl; messages = refl; sent = refl; last = refl; traced = refl; log = refl };
       sound = sound_after old.busy (one_stray old).counters (let b = is.busy in omega arith) (let room = is.counts in grind arith) refl;
       sends = row_sends;
       few = let few = row_few in let some = is.numbers.nodes.at_least in omega arith;

@@ -81,7 +81,7 @@ module _ (machine : MachineParts) (time : ℕ) (old : NodeState) (is : HasBegun 
   -- a stop
   stops : (cause : Cause) → Went machine time (suc time) old (stopped cause old)
   stops cause = record {
-    still = record { number = refl; steps = refl; messages = refl; sent = refl; last = refl; traced = refl };
+    still = record { number = refl; steps = refl; messages = refl; sent = refl; last = refl; traced = refl; log = refl };
     sound = settled machine old.counters.messages old is (Stopped cause) old.counters (let room = is.counts in grind arith) refl (omega arith) tt;
     sends = all_none (SendFits machine time);
     few = omega arith;
@@ -97,7 +97,7 @@ module _ (machine : MachineParts) (time : ℕ) (old : NodeState) (is : HasBegun 
         counters.steps ≡ old.counters.steps → counters.messages ≡ old.counters.messages → counters.sent ≡ old.counters.sent → All (SendFits machine time) handled.sends → length handled.sends ≤ machine.nodes + 1 →
         Went machine time (suc time) old handled
     moves handled node aligned some most whole fits counts steps messages sent sends few = record {
-      still = rw node (record { number = refl; steps = steps; messages = messages; sent = sent; last = refl; traced = refl });
+      still = rw node (record { number = refl; steps = steps; messages = messages; sent = sent; last = refl; traced = refl; log = refl });
       sound = rw node (went_on machine old.counters.messages old is registers pc (time + cost) private cache counters output aligned (omega arith) whole fits counts messages (omega (arith, steps, messages)) old.mode running);
       sends = sends;
       few = few;
@@ -130,7 +130,7 @@ module _ (machine : MachineParts) (time : ℕ) (old : NodeState) (is : HasBegun 
       CacheFits machine cache → CountsFit machine counters → counters.steps ≡ old.counters.steps → counters.messages ≡ old.counters.messages → counters.sent ≡ old.counters.sent → MsgFits machine (record { block = block; body = body }) →
       Went machine time (suc time) old (sending (to_home machine time block body ∷ []) (quiet (record old { mode = Waiting block exclusive; cache = cache; counters = counters })))
   waits block exclusive cache counters body exists fetched absent asks fits counts steps messages sent msg = record {
-    still = record { number = refl; steps = steps; messages = messages; sent = sent; last = refl; traced = refl };
+    still = record { number = refl; steps = steps; messages = messages; sent = sent; last = refl; traced = refl; log = refl };
     sound = record {
       numbers = is.numbers;
       number = is.number;
@@ -279,7 +279,7 @@ module _ (machine : MachineParts) (time : ℕ) (old : NodeState) (is : HasBegun 
       by : (alone : Bool) → Went machine time (suc time) old (cond alone (quiet (moved_on (address_after old.pc) (time + machine.costs.call) old)) (sending (message_to time 0 0 Arrive ∷ []) (quiet (in_mode InBarrier old))))
       by true = goes_on old.registers old.output (quiet (moved_on (address_after old.pc) (time + machine.costs.call) old)) refl refl
       by false = record {
-        still = record { number = refl; steps = refl; messages = refl; sent = refl; last = refl; traced = refl };
+        still = record { number = refl; steps = refl; messages = refl; sent = refl; last = refl; traced = refl; log = refl };
         sound = settled machine old.counters.messages old is InBarrier old.counters (let room = is.counts in grind arith) refl (omega arith) fetched;
         sends = sends_one machine time 0 0 Arrive early is.numbers.nodes.at_least (record { block = refl; «data» = tt });
         few = omega arith;
@@ -291,7 +291,7 @@ module _ (machine : MachineParts) (time : ℕ) (old : NodeState) (is : HasBegun 
     where
       ends : (handled : Handled) → handled.node ≡ in_mode (Stopped (causes.Exit code)) (one_done old) → All (SendFits machine time) handled.sends → length handled.sends ≤ machine.nodes + 1 → Went machine time (suc time) old handled
       ends handled node sends few = record {
-        still = rw node (record { number = refl; steps = refl; messages = refl; sent = refl; last = refl; traced = refl });
+        still = rw node (record { number = refl; steps = refl; messages = refl; sent = refl; last = refl; traced = refl; log = refl });
         sound = rw node (settled machine old.counters.messages old is (Stopped (causes.Exit code)) (one_done old).counters (let room = is.counts in grind arith) refl (omega arith) tt);
         sends = sends;
         few = few;

@@ -75,13 +75,15 @@ abbrev pub logged : Bool → Record → List Record → List Record
 logged true event log = log ++ event ∷ []
 logged false event log = log
 
+-- what is recorded of an event
+abbrev pub recorded : Key → What → List Stamped → Handled → Record
+recorded key what sends handled = record { key = key; what = what; deed = handled.deed; trap = handled.trap; sends = sends }
+
 -- The sends are stamped and counted, and the event is recorded.
 abbrev pub ended : Key → What → List Stamped → Handled → NodeState
 ended key what sends handled = record (handled.node) {
   counters = record (handled.node.counters) { sent = handled.node.counters.sent + length handled.sends };
-  log = logged handled.node.traced
-      (record { key = key; what = what; deed = handled.deed; trap = handled.trap; sends = sends })
-      handled.node.log;
+  log = logged handled.node.traced (recorded key what sends handled) handled.node.log;
 }
 
 abbrev pub sends_of : MachineParts → Handled → List Stamped
@@ -91,20 +93,40 @@ abbrev pub react_with : MachineParts → Key → What → Handled → NodeState 
 react_with machine key what handled =
     (ended key what (sends_of machine handled) handled, sends_of machine handled)
 
+-- the step that a node does next
+abbrev pub next_handled : MachineParts → NodeState → Handled
+next_handled machine node = step_of machine (step_time node) (counted_step (next_key machine node) node)
+
+abbrev pub next_what : MachineParts → NodeState → What
+next_what machine node = whats.Step node.pc (fetch_of machine node)
+
 -- the node after its next step, and the messages that it sends
 unfoldable pub react_to_step : MachineParts → NodeState → NodeState × List Stamped
 react_to_step machine node =
-    react_with machine (next_key machine node) (whats.Step node.pc (fetch_of machine node))
-    (step_of machine (step_time node) (counted_step (next_key machine node) node))
+    react_with machine (next_key machine node) (next_what machine node) (next_handled machine node)
+
+-- a message that a node handles
+abbrev pub message_handled : MachineParts → NodeState → Key → Msg → Handled
+message_handled machine node key msg = message_of machine key.time key.from msg (counted_message key node)
 
 -- the node after a message, and the messages that it sends
 unfoldable pub react_to_message : MachineParts → NodeState → Key → Msg → NodeState × List Stamped
 react_to_message machine node key msg =
-    react_with machine key (whats.Message msg) (message_of machine key.time key.from msg (counted_message key node))
+    react_with machine key (whats.Message msg) (message_handled machine node key msg)
 
 abbrev pub react : MachineParts → NodeState → Event Msg → NodeState × List Stamped
 react machine node Step = react_to_step machine node
 react machine node (Arrival message) = react_to_message machine node message.0 message.1
+
+-- the record of an event
+abbrev pub record_with : MachineParts → Key → What → Handled → Record
+record_with machine key what handled = recorded key what (sends_of machine handled) handled
+
+unfoldable pub record_of : MachineParts → NodeState → Event Msg → Record
+record_of machine node Step =
+    record_with machine (next_key machine node) (next_what machine node) (next_handled machine node)
+record_of machine node (Arrival message) =
+    record_with machine message.0 (whats.Message message.1) (message_handled machine node message.0 message.1)
 
 -- ---- the machine, as a simulation of its nodes
 

@@ -58,6 +58,7 @@ impl Node {
         ensures start { IfOk result (λ node. node.state ≡ start_node machine.now loaded.now traced number) }
         ensures machine { IfOk result (λ node. node.machine ≡ machine.now) }
         ensures whole { IfOk result (λ node. node.broken ≡ false) }
+        ensures sound { IfOk result (λ node. IsNode node.machine node.state) }
     {
         let state = NodeState::new(alloc, machine, number, loaded, traced)?;
         Ok(Node {
@@ -67,6 +68,20 @@ impl Node {
             sends: SendList::new(alloc),
             broken: false,
         })
+    }
+
+    /// The machine that the node is of.
+    pub fn machine(&self) -> &Machine
+        ensures { result.now ≡ self.now.machine }
+    {
+        &self.machine
+    }
+
+    /// The node's number.
+    pub fn number(&self) -> u32
+        ensures { result ≡ self.now.state.number }
+    {
+        self.state.number
     }
 
     /// When the processor's next step begins. None exactly where it isn't running.

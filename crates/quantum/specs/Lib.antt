@@ -1,0 +1,5 @@
+pub mod World
+pub mod Outcome
+pub mod Stations
+pub mod FreeRuns
+pub mod Sites

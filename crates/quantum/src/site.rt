@@ -1,0 +1,207 @@
+ghost use Rattle.std.specs.Prelude.{◌≡◌, ℕ, ◌<◌, ◌≤◌, ◌+◌, [], false, IfOk, OnOk, Some};
+ghost use Rattle.event_queue.specs.Rising.{IsRising};
+ghost use Rattle.image_loader.specs.Images.{IsFor};
+ghost use Rattle.node.specs.Start.{start_node};
+ghost use Rattle.quantum.specs.FreeRuns.{IsFree, IsHandedOut, run_to_of};
+ghost use Rattle.quantum.specs.Sites.{IsLookedAt, IsSite, IsTurn, Handles, HandsOut, MayHandOut, before_of, first_time_of, is_message_of, least_time_at, run_up_to};
+ghost use Rattle.quantum.specs.Stations.{station_of};
+
+use event_queue::{Queue, Steps};
+use image_loader::Loaded;
+use node::Node;
+use std::alloc::Global;
+use std::sync::ledger::Ledger;
+use wt_params::{Machine, NoMemory};
+use wt_proto::StampedList;
+
+/// A node, and the messages that wait for it.
+#[derive(Drop)]
+pub struct Site {
+    pub node: Node,
+    pub queue: Queue,
+}
+
+/// What a node does next.
+#[derive(Clone, Copy)]
+pub enum Turn {
+    /// The next step of its processor.
+    Step,
+    /// The first of its messages.
+    Message,
+}
+
+impl Site {
+    /// A node at the start, and no messages.
+    pub fn new(
+        alloc: Global,
+        machine: &Machine,
+        number: u32,
+        loaded: &Loaded,
+        traced: bool,
+    ) -> Result<Site, NoMemory>
+        requires number { number < machine.now.nodes }
+        requires images { IsFor machine.now loaded.now }
+        ensures start { IfOk result (λ site. site.node.state ≡ start_node machine.now loaded.now traced number) }
+        ensures machine { IfOk result (λ site. site.node.machine ≡ machine.now) }
+        ensures whole { IfOk result (λ site. site.node.broken ≡ false) }
+        ensures queue { IfOk result (λ site. site.queue ≡ []) }
+        ensures site { IfOk result (IsSite 0) }
+    {
+        let node = Node::new(alloc, machine, number, loaded, traced)?;
+        Ok(Site {
+            node,
+            queue: Queue::new(alloc),
+        })
+    }
+
+    /// The time of the first message.
+    fn first_time<L: Ledger>(&self, steps: &mut Steps<L>) -> Option<u64>
+        ensures value { result ≡ first_time_of self.now.queue }
+        ensures rising { IsRising self.now.queue }
+        ensures step { steps.new ≡ steps.old + 1 }
+    {
+        let first = self.queue.peek(steps);
+        first.map(|key| key.time)
+    }
+
+    /// The time of the least event.
+    pub fn least<L: Ledger>(&self, steps: &mut Steps<L>) -> Option<u64>
+        ensures value { (past : ℕ) → IsSite past self.now → result ≡ least_time_at self.now }
+        ensures step { steps.new ≡ steps.old + 1 }
+    {
+        let budget = self.node.machine().budget();
+        let first = self.first_time(steps);
+        match self.turn(first, budget) {
+            None => None,
+            Some(Turn::Step) => self.node.next_step(),
+            Some(Turn::Message) => first,
+        }
+    }
+
+    /// The node's next event before a time, where `first` is the time of its first message.
+    fn turn(&self, first: Option<u64>, until: u64) -> Option<Turn>
+        requires first { first ≡ first_time_of self.now.queue }
+        requires rising { IsRising self.now.queue }
+        ensures { (past : ℕ) → IsSite past self.now → IsTurn until self.now result }
+    {
+        if self.node.spent() {
+            return None;
+        }
+        match (first, self.node.next_step()) {
+            (None, None) => None,
+            (Some(message), None) => before(Turn::Message, message, until),
+            (None, Some(step)) => before(Turn::Step, step, until),
+            (Some(message), Some(step)) => {
+                if message <= step {
+                    before(Turn::Message, message, until)
+                } else {
+                    before(Turn::Step, step, until)
+                }
+            }
+        }
+    }
+
+    /// Handles the node's least event, and adds the messages that it sends to `sends`.
+    fn handle<L: Ledger>(
+        &mut self,
+        turn: Turn,
+        until: u64,
+        sends: &mut StampedList,
+        steps: &mut Steps<L>,
+    ) -> Result<(), NoMemory>
+        requires budget { until ≤ self.old.node.machine.budget }
+        requires site { IsSite until self.old }
+        requires rising { IsRising self.old.queue }
+        requires turn { IsTurn until self.old (Some turn) }
+        ensures handled { OnOk result (Handles until self.old self.new turn sends.old sends.new steps.old steps.new) }
+        ensures machine { self.new.node.machine ≡ self.old.node.machine }
+    {
+        match turn {
+            Turn::Step => self.node.handle_step(sends),
+            Turn::Message => match self.queue.pop(steps) {
+                None => Ok(()),
+                Some(message) => self.node.handle_message(&message, sends),
+            },
+        }
+    }
+
+    /// Puts the messages that the node has sent to itself among those that wait, and hands out the others. Answers
+    /// whether there were some to itself.
+    fn hand_out<L: Ledger>(
+        &mut self,
+        sends: &mut StampedList,
+        outs: &mut StampedList,
+        steps: &mut Steps<L>,
+    ) -> Result<bool, NoMemory>
+        requires { MayHandOut self.old sends.old }
+        ensures parts { OnOk result (HandsOut self.old self.new sends.old outs.old outs.new steps.old steps.new) }
+        ensures looked { IfOk result (λ looked. IsLookedAt looked self.old self.new steps.old steps.new) }
+        ensures none_left { OnOk result (sends.new ≡ []) }
+        ensures node { self.new.node ≡ self.old.node }
+    {
+        let mut own = false;
+        if sends.is_empty() {
+            return Ok(own);
+        }
+        let number = self.node.number();
+        while let Some(message) = sends.pop_first() {
+            if message.to == number {
+                match self.queue.insert(message, steps) {
+                    Ok(()) => own = true,
+                    Err(_back) => return Err(NoMemory),
+                }
+            } else {
+                outs.push(message)?;
+            }
+        }
+        Ok(own)
+    }
+
+    /// Handles exactly the node's events before a time. The messages to other nodes are handed out. The queue is looked at
+    /// when the run begins, after each message, and after each event that sends to the node itself.
+    pub fn run_to<L: Ledger>(
+        &mut self,
+        alloc: Global,
+        until: u64,
+        steps: &mut Steps<L>,
+    ) -> Result<StampedList, NoMemory>
+        requires budget { until ≤ self.old.node.machine.budget }
+        requires site { IsSite until self.old }
+        ensures ran { (past : ℕ) → OnOk result (station_of (run_up_to until self.new) ≡ (run_to_of until (run_up_to past self.old)).0) }
+        ensures outs { (past : ℕ) → IfOk result (λ outs. IsHandedOut until (run_up_to past self.old) (run_up_to until self.new) outs) }
+        ensures site { OnOk result (IsSite until self.new) }
+        ensures rising { OnOk result (IsRising self.new.queue) }
+        ensures machine { self.new.node.machine ≡ self.old.node.machine }
+        ensures free { IfOk result (λ outs. IsFree steps.old steps.new self.old.node.state self.new.node.state outs) }
+    {
+        let mut outs = StampedList::new(alloc);
+        let mut sends = StampedList::new(alloc);
+        let mut first = self.first_time(steps);
+        while let Some(turn) = self.turn(first, until) {
+            self.handle(turn, until, &mut sends, steps)?;
+            let own = self.hand_out(&mut sends, &mut outs, steps)?;
+            if own || turn.is_message() {
+                first = self.first_time(steps);
+            }
+        }
+        Ok(outs)
+    }
+}
+
+impl Turn {
+    fn is_message(&self) -> bool
+        ensures { result ≡ is_message_of self.now }
+    {
+        match self {
+            Turn::Step => false,
+            Turn::Message => true,
+        }
+    }
+}
+
+/// A turn at a time, where that is before another time.
+fn before(turn: Turn, time: u64, until: u64) -> Option<Turn>
+    ensures { result ≡ before_of turn time until }
+{
+    if time < until { Some(turn) } else { None }
+}
