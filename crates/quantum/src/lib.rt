@@ -8,3 +8,6 @@ mod site;
 mod station;
 
 pub use station::{Outs, Station};
+
+#[cfg(test)]
+mod tests;
