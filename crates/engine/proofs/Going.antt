@@ -1,0 +1,85 @@
+-- What the code of a round needs: that its stations may run and exchange, and what it then comes to.
+use Rattle.std.proofs.Common.{◌≡◌, ℕ, ◌+◌, ◌*◌, ◌^◌, ◌<◌, ◌≤◌, List, ◌++◌, length, take, map, false, Some, None, refl, ap, sym, ◌∙◌, subst, arith}
+use Rattle.std.proofs.Math.Seq.{take-append_seam}
+use Rattle.std.specs.List.{All}
+use Rattle.wt_proto.specs.declared.key.Key.{Key}
+use Rattle.wt_proto.specs.declared.message.Msg.{Msg}
+use Rattle.discrete_events.specs.Simulation.{Event}
+use Rattle.discrete_events.specs.World.{events_in, least}
+use Rattle.discrete_events.specs.Round.{quantum_end}
+use Rattle.discrete_events.specs.Laws.{IsSerialFrom}
+use Rattle.discrete_events.proofs.SerialRun.{serial-zero}
+use Rattle.node.specs.React.{wind_tunnel}
+use Rattle.quantum.specs.Stations.{StationModel, IsUnbroken as IsWholeStation, machine_of}
+use Rattle.engine.specs.Engine.{EngineModel, IsRunning, world_of}
+use Rattle.engine.specs.Rounds.{IsOver}
+use Rattle.engine.specs.Quantum.{HaveAdvanced, MayExchange, IsGood, earliest_of, ran_to}
+use Rattle.engine.proofs.Places.{all_by, in_all}
+use Rattle.engine.proofs.Owned.{earliest_is, its}
+use Rattle.engine.proofs.Letters.{early, exchanges, forward}
+use Rattle.engine.proofs.Quanta.{Done, done, event_at, events_bound, is_final}
+
+module _ (engine : EngineModel) (running : IsRunning engine) where
+  pub all_whole : All IsWholeStation engine.stations
+  all_whole = all_by IsWholeStation engine.stations (λ s member. (its engine running s member).whole)
+
+  pub stays : IsSerialFrom (wind_tunnel engine.machine) (world_of engine) (world_of engine)
+  stays = record { steps = 0; run = sym (serial-zero (wind_tunnel engine.machine) (world_of engine)); counted = omega arith }
+
+  -- without an event
+  pub over : earliest_of engine.stations ≡ None → IsOver engine engine
+  over none = let e = sym (earliest_is engine running) ∙ none in record { none = e; unchanged = refl; last = is_final engine running e }
+
+  -- the sum of the events of all nodes is no large number
+  pub few_times : (nodes limit : ℕ) → nodes ≤ 32 → limit ≤ 2 ^ 40 → nodes * limit ≤ 2 ^ 45
+  few_times nodes limit few most = grind arith
+
+  pub few_quanta : engine.quanta ≤ 2 ^ 45
+  few_quanta =
+      let bound = events_bound engine running in
+      let counted = running.counted in
+      let few = few_times engine.machine.nodes engine.machine.event_limit running.numbers.nodes.at_most running.numbers.event_limit.at_most in
+      omega arith
+
+  module _ (time : ℕ) (first : earliest_of engine.stations ≡ Some time) where
+    -- what the least event brings, at its time
+    at_time : (P : ℕ → Type 0) → ((key : Key) (event : Event Msg) → least (events_in (wind_tunnel engine.machine) (world_of engine)) ≡ Some (key, event) → P key.time) → P time
+    at_time P each = let e = event_at engine running time first in subst P e.3 (each e.0 e.1 e.2)
+
+    pub before_budget : time < engine.machine.budget
+    before_budget = at_time (λ t. t < engine.machine.budget) (λ key event is. early engine running key event is)
+
+    pub may_run : All (λ (s : StationModel). quantum_end (wind_tunnel engine.machine) time ≤ (machine_of s).budget) engine.stations
+    may_run = all_by (λ (s : StationModel). quantum_end (wind_tunnel engine.machine) time ≤ (machine_of s).budget) engine.stations
+        (λ s member. subst (λ m. quantum_end (wind_tunnel engine.machine) time ≤ m.budget) (sym (its engine running s member).machine_is) (omega arith))
+
+    pub may_go_on : All (λ (s : StationModel). s.until ≤ quantum_end (wind_tunnel engine.machine) time) engine.stations
+    may_go_on = all_by (λ (s : StationModel). s.until ≤ quantum_end (wind_tunnel engine.machine) time) engine.stations
+        (λ s member. at_time (λ t. s.until ≤ quantum_end (wind_tunnel engine.machine) t) (λ key event is. forward engine running key event is s member))
+
+    pub may_exchange : MayExchange (quantum_end (wind_tunnel engine.machine) time) engine.stations
+    may_exchange = at_time (λ t. MayExchange (quantum_end (wind_tunnel engine.machine) t) engine.stations) (λ key event is letters handed. (exchanges engine running key event is letters handed).may)
+
+    abbrev after : ℕ → List StationModel → EngineModel
+    after until stations = record { machine = engine.machine; stations = stations; kept_end = until; quanta = engine.quanta + 1; broken = false }
+
+    pub advanced : (stations : List StationModel) → HaveAdvanced (quantum_end (wind_tunnel engine.machine) time) engine.stations stations → Done engine time (after (quantum_end (wind_tunnel engine.machine) time) stations)
+    advanced stations = at_time (λ t. HaveAdvanced (quantum_end (wind_tunnel engine.machine) t) engine.stations stations → Done engine t (after (quantum_end (wind_tunnel engine.machine) t) stations)) each
+      where
+        each : (key : Key) (event : Event Msg) → least (events_in (wind_tunnel engine.machine) (world_of engine)) ≡ Some (key, event) → HaveAdvanced (quantum_end (wind_tunnel engine.machine) key.time) engine.stations stations → Done engine key.time (after (quantum_end (wind_tunnel engine.machine) key.time) stations)
+        each key event is have =
+            done engine running key event is have.letters have.handed_out stations have.delivery
+            (in_all IsGood (map (ran_to (quantum_end (wind_tunnel engine.machine) key.time)) engine.stations) have.good_runs) (in_all IsGood stations have.good)
+
+-- all of a list is written
+pub written : (n : ℕ) (xs ys : List StationModel) → length xs ≡ n → take n (xs ++ ys) ≡ xs
+written n xs ys e = ap (λ k. take k (xs ++ ys)) (sym e) ∙ take-append_seam xs ys
+
+pub gone_on : (view now : EngineModel) → view ≡ now → IsRunning view → (time until : ℕ) → earliest_of view.stations ≡ Some time → until ≡ quantum_end (wind_tunnel view.machine) time →
+    (new written_to : List StationModel) → HaveAdvanced until view.stations new → written_to ≡ new →
+    Done now time (record { machine = view.machine; stations = written_to; kept_end = until; quanta = view.quanta + 1; broken = false })
+gone_on view now same running time until first end new written_to have is =
+    subst (λ e. Done e time (record { machine = view.machine; stations = written_to; kept_end = until; quanta = view.quanta + 1; broken = false })) same
+    (subst (λ ss. Done view time (record { machine = view.machine; stations = ss; kept_end = until; quanta = view.quanta + 1; broken = false })) (sym is)
+    (subst (λ u. Done view time (record { machine = view.machine; stations = new; kept_end = u; quanta = view.quanta + 1; broken = false })) (sym end)
+    (advanced view running time first new (subst (λ u. HaveAdvanced u view.stations new) end have))))

@@ -1,0 +1,9 @@
+pub mod Places
+pub mod Deliveries
+pub mod Runs
+pub mod Owned
+pub mod Letters
+pub mod Quanta
+pub mod Going
+pub mod StartLemmas
+pub mod HeadLemmas

@@ -1,0 +1,14 @@
+use Rattle.std.proofs.Common.{◌≡◌, ℕ, ap, subst, arith}
+use Rattle.wt_params.specs.declared.parts.MachineParts.{MachineParts}
+use Rattle.engine.proofs.StartLemmas.{AreAtStart, running_at_start, world_is_start}
+use Rattle.engine.proofs.engine.Engine.new.Goals as goal
+
+pub invariant_of-result : goal.invariant_of-result
+invariant_of-result c =
+    let all = subst (λ (n : ℕ). AreAtStart c.args.machine c.args.loaded.now c.args.traced n c.loop-number.stations.items) (let p = ap (λ (m : MachineParts). m.nodes) c.parts.ensures.value in let e : c.loop-number.number ≡ c.args.machine.nodes = omega arith in e) c.loop-number.invariant in
+    λ whole. running_at_start c.args.machine c.args.loaded.now c.args.traced c.parts.ensures.machine c.loop-number.stations.items all
+
+pub returns-clause-start : goal.returns-clause-start
+returns-clause-start c =
+    let all = subst (λ (n : ℕ). AreAtStart c.args.machine c.args.loaded.now c.args.traced n c.loop-number.stations.items) (let p = ap (λ (m : MachineParts). m.nodes) c.parts.ensures.value in let e : c.loop-number.number ≡ c.args.machine.nodes = omega arith in e) c.loop-number.invariant in
+    world_is_start c.args.machine c.args.loaded.now c.args.traced c.parts.ensures.machine c.loop-number.stations.items all

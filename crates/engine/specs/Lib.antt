@@ -1,0 +1,4 @@
+pub mod Engine
+pub mod Rounds
+pub mod Quantum
+pub mod Heads

@@ -1,0 +1,76 @@
+-- The parts of a quantum: when the next event is, the runs of the stations, and the exchange of what they sent. Own.
+use Rattle.std.specs.Prelude.{◌≡◌, ⊤, ℕ, suc, zero, min, false, List, [], ◌∷◌, ◌++◌, map, Option, Some, None}
+use Rattle.std.specs.List.{All}
+use Rattle.wt_proto.specs.declared.message.Stamped.{Stamped}
+use Rattle.quantum.specs.FreeRuns.{IsHandedOut, run_to_of}
+use Rattle.quantum.specs.Stations.{StationModel, IsLive, IsUnbroken, MayAccept, accept_of, least_time_of, machine_of}
+
+-- the lesser of two times, where there is one
+abbrev pub sooner : Option ℕ → Option ℕ → Option ℕ
+sooner None other = other
+sooner (Some time) None = Some time
+sooner (Some time) (Some other) = Some (min time other)
+
+-- the time of the least event of some stations
+abbrev pub earliest_of : List StationModel → Option ℕ
+earliest_of [] = None
+earliest_of (station ∷ stations) = sooner (least_time_of station) (earliest_of stations)
+
+-- a station that isn't broken
+pub record IsGood (station : StationModel) : Type 0 where
+  pub whole : IsUnbroken station
+  pub live : IsLive station
+
+-- a station that has run up to a time
+abbrev pub ran_to : ℕ → StationModel → StationModel
+ran_to until station =
+    let run = (run_to_of until station).0 in
+    record {
+      node = record { machine = machine_of station; state = run.node; broken = false };
+      pending = run.pending;
+      until = run.until;
+      broken = false;
+    }
+
+-- what several stations hand out when they run up to a time, in their order
+abbrev pub AreHandedOut : ℕ → List StationModel → List Stamped → Type 0
+AreHandedOut until [] letters = letters ≡ []
+AreHandedOut until (station ∷ stations) letters =
+    (outs rest : List Stamped) × IsHandedOut until station (ran_to until station) outs
+    × AreHandedOut until stations rest × (letters ≡ outs ++ rest)
+
+-- stations of which one, by its place, has changed
+abbrev pub changed_at : ℕ → (StationModel → StationModel) → List StationModel → List StationModel
+changed_at place change [] = []
+changed_at zero change (station ∷ stations) = change station ∷ stations
+changed_at (suc place) change (station ∷ stations) = station ∷ changed_at place change stations
+
+-- stations that were given messages, each to the station that it names
+abbrev pub delivered : List Stamped → List StationModel → List StationModel
+delivered [] stations = stations
+delivered (letter ∷ letters) stations = delivered letters (changed_at letter.to (accept_of letter) stations)
+
+-- the station at a place may be given a message
+abbrev pub MayAcceptAt : ℕ → Stamped → List StationModel → Type 0
+MayAcceptAt place letter [] = ⊥
+MayAcceptAt zero letter (station ∷ stations) = MayAccept station letter
+MayAcceptAt (suc place) letter (station ∷ stations) = MayAcceptAt place letter stations
+
+-- each message may be given to its station once those before it are
+abbrev pub MayDeliver : List Stamped → List StationModel → Type 0
+MayDeliver [] stations = ⊤
+MayDeliver (letter ∷ letters) stations =
+    MayAcceptAt letter.to letter stations × MayDeliver letters (changed_at letter.to (accept_of letter) stations)
+
+-- what stations hand out when they run up to a time may then be delivered
+abbrev pub MayExchange : ℕ → List StationModel → Type 0
+MayExchange until stations =
+    (letters : List Stamped) → AreHandedOut until stations letters → MayDeliver letters (map (ran_to until) stations)
+
+-- Stations have run up to a time, and were then given what they have sent to each other.
+pub record HaveAdvanced (until : ℕ) (before after : List StationModel) : Type 0 where
+  pub letters : List Stamped
+  pub handed_out : AreHandedOut until before letters
+  pub good_runs : All IsGood (map (ran_to until) before)
+  pub delivery : after ≡ delivered letters (map (ran_to until) before)
+  pub good : All IsGood after

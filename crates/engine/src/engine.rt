@@ -1,0 +1,168 @@
+ghost use Rattle.std.specs.Prelude.{◌≡◌, ◌<◌, ◌≤◌, ◌*◌, true, All, IfOk, OnErr, OnOk};
+ghost use Rattle.discrete_events.specs.Laws.{IsSerialFrom};
+ghost use Rattle.discrete_events.specs.Serial.{final};
+ghost use Rattle.image_loader.specs.Images.{IsFor};
+ghost use Rattle.node.specs.React.{wind_tunnel};
+ghost use Rattle.quantum.specs.Outcome.{head_of};
+ghost use Rattle.quantum.specs.Stations.{HasNoPast};
+ghost use Rattle.quantum.specs.World.{start_of};
+ghost use Rattle.engine.specs.Engine.{IsRunning, IsStationOf, IsUnbroken, events_so_far, sim_of, world_of};
+ghost use Rattle.engine.specs.Rounds.{WentRound};
+
+use crate::head::head;
+use crate::stations::{advance, earliest};
+use event_queue::Steps;
+use image_loader::Loaded;
+use quantum::Station;
+use std::alloc::Global;
+use std::marker::{Brand, Model};
+use std::sync::ledger::{Blank, Ledger};
+use wt_params::{Machine, NoMemory};
+use wt_stats::Head;
+
+/// A machine with all its nodes, each with the messages that wait for it. After want of memory in a round it is broken:
+/// it answers want of memory from then on.
+#[derive(Drop)]
+pub struct Engine {
+    alloc: Global,
+    machine: Machine,
+    stations: Vec<Station>,
+    /// The end of the last quantum that was begun.
+    kept_end: u64,
+    /// How many quanta were begun.
+    quanta: u64,
+    broken: bool,
+}
+
+impl Model for Engine {
+    ghost use Rattle.std.specs.Coded.{codes};
+    ghost use Rattle.std.specs.FinMap.{code};
+    ghost use Rattle.engine.specs.Engine.{EngineModel, IsSoundEngine};
+
+    ghost Value = { EngineModel };
+
+    ghost coded = { Prim.hlevel (codes, code) };
+
+    ghost view = { λ engine. record {
+      machine = engine.machine;
+      stations = engine.stations.items;
+      kept_end = engine.kept_end;
+      quanta = engine.quanta;
+      broken = engine.broken;
+    } };
+
+    ghost invariant = { λ engine. IsSoundEngine (record {
+      machine = engine.machine;
+      stations = engine.stations.items;
+      kept_end = engine.kept_end;
+      quanta = engine.quanta;
+      broken = engine.broken;
+    }) };
+}
+
+/// What a round found.
+#[derive(Clone, Copy, Debug, PartialEq, Eq)]
+pub enum Round {
+    /// No event is left, and nothing was done.
+    Ended,
+    /// One quantum was done.
+    More,
+}
+
+impl Engine {
+    /// A machine at the start, with the images in the memories of its nodes. Their events are recorded exactly where
+    /// `traced`.
+    pub fn new(
+        alloc: Global,
+        machine: Machine,
+        loaded: &Loaded,
+        traced: bool,
+    ) -> Result<Engine, NoMemory>
+        requires images { IsFor machine loaded.now }
+        ensures start { IfOk result (λ engine. world_of engine ≡ start_of machine loaded.now traced) }
+        ensures machine { IfOk result (λ engine. engine.machine ≡ machine) }
+        ensures unbroken { IfOk result IsUnbroken }
+    {
+        let mut stations = Vec::new(alloc);
+        for number in 0..machine.parts().nodes as u32 {
+            stations.push(Station::new(alloc, &machine, number, loaded, traced)?)?;
+        }
+        Ok(Engine {
+            alloc,
+            machine,
+            stations,
+            kept_end: 0,
+            quanta: 0,
+            broken: false,
+        })
+    }
+
+    /// Does one quantum on the calling thread: every node runs on its own from the least event on, up to the end of the
+    /// quantum that it begins, and then they exchange their messages.
+    pub fn round_plain(&mut self) -> Result<Round, NoMemory>
+        ensures serial { OnOk result (IsSerialFrom (sim_of self.old) (world_of self.old) (world_of self.new)) }
+        ensures round { IfOk result (WentRound self.old self.new) }
+        ensures end { OnOk result (final (sim_of self.old) (world_of self.new) ≡ final (sim_of self.old) (world_of self.old)) }
+        ensures bound { OnOk result (events_so_far self.new ≤ self.new.machine.nodes * self.new.machine.event_limit) }
+        ensures no_past { OnOk result (All HasNoPast self.new.stations) }
+        ensures unbroken { OnOk result (IsUnbroken self.old × IsUnbroken self.new) }
+        ensures machine { self.new.machine ≡ self.old.machine }
+        ensures broken { OnErr result (self.new.broken ≡ true) }
+    {
+        self.round_counted::<Brand>(Blank::new(1))
+    }
+
+    /// The same, with the steps of the queues counted in a ledger.
+    fn round_counted<L: Ledger>(&mut self, blank: Blank) -> Result<Round, NoMemory>
+        requires name { blank.name ≡ L.name }
+        requires parts { blank.parts ≡ L.parts }
+        requires some { 0 < blank.parts }
+        ensures serial { OnOk result (IsSerialFrom (sim_of self.old) (world_of self.old) (world_of self.new)) }
+        ensures round { IfOk result (WentRound self.old self.new) }
+        ensures end { OnOk result (final (sim_of self.old) (world_of self.new) ≡ final (sim_of self.old) (world_of self.old)) }
+        ensures bound { OnOk result (events_so_far self.new ≤ self.new.machine.nodes * self.new.machine.event_limit) }
+        ensures no_past { OnOk result (All HasNoPast self.new.stations) }
+        ensures unbroken { OnOk result (IsUnbroken self.old × IsUnbroken self.new) }
+        ensures machine { self.new.machine ≡ self.old.machine }
+        ensures broken { OnErr result (self.new.broken ≡ true) }
+    {
+        if self.broken {
+            return Err(NoMemory);
+        }
+        let mut steps = Steps::<L>::new(blank);
+        let Some(time) = earliest(&self.stations, &mut steps) else {
+            return Ok(Round::Ended);
+        };
+        let until = (time + self.machine.quantum()).min(self.machine.budget());
+        // What is half done isn't to be used, should memory be refused.
+        self.broken = true;
+        advance(self.alloc, &mut self.stations, until, &mut steps)?;
+        self.kept_end = until;
+        self.quanta += 1;
+        self.broken = false;
+        Ok(Round::More)
+    }
+
+    /// What the run has come to.
+    pub fn head(&self) -> Head
+        ensures { IsUnbroken self.now → result ≡ head_of self.now.machine (world_of self.now) }
+    {
+        head(&self.stations, self.quanta)
+    }
+
+    /// The nodes with their messages, in the order of their numbers.
+    pub fn stations(&self) -> &[Station]
+        ensures value { result.now ≡ self.now.stations }
+        ensures live { IsUnbroken self.now → All (IsStationOf self.now.machine self.now.kept_end) result.now }
+        ensures world { IsUnbroken self.now → IsRunning self.now }
+    {
+        &self.stations
+    }
+
+    /// The machine.
+    pub fn machine(&self) -> &Machine
+        ensures { result.now ≡ self.now.machine }
+    {
+        &self.machine
+    }
+}

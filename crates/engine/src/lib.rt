@@ -1,0 +1,11 @@
+//! A machine of many nodes, run quantum by quantum on the calling thread: each node runs on its own up to the end of the
+//! quantum, and then they exchange their messages. The world that it comes to is that of the serial simulation.
+//!
+//! [`Engine::round_plain`] is one quantum; the world of an engine is what its stations hold together.
+#![tactic(auto)]
+
+mod engine;
+mod head;
+mod stations;
+
+pub use self::engine::{Engine, Round};

@@ -1,0 +1,109 @@
+ghost use Rattle.std.specs.Prelude.{◌≡◌, ◌≤◌, ◌++◌, All, map, IfOk, OnOk};
+ghost use Rattle.quantum.specs.Stations.{IsUnbroken, machine_of};
+ghost use Rattle.engine.specs.Quantum.{AreHandedOut, HaveAdvanced, IsGood, MayDeliver, MayExchange, delivered, earliest_of, ran_to, sooner};
+
+use event_queue::Steps;
+use quantum::{Outs, Station};
+use std::alloc::Global;
+use std::sync::ledger::Ledger;
+use wt_params::NoMemory;
+use wt_proto::StampedList;
+
+/// The time of the least event of all stations. None exactly where no station has one.
+pub fn earliest<L: Ledger>(stations: &[Station], steps: &mut Steps<L>) -> Option<u64>
+    requires { All IsUnbroken stations.now }
+    ensures { result ≡ earliest_of stations.now }
+{
+    let mut first = None;
+    for station in stations {
+        first = lesser(first, station.least(steps));
+    }
+    first
+}
+
+fn lesser(one: Option<u64>, other: Option<u64>) -> Option<u64>
+    ensures { result ≡ sooner one other }
+{
+    match (one, other) {
+        (None, _) => other,
+        (_, None) => one,
+        (Some(time), Some(other)) => Some(time.min(other)),
+    }
+}
+
+/// Every station runs on its own up to a time, and then they are given what they have sent to each other.
+pub fn advance<L: Ledger>(
+    alloc: Global,
+    stations: &mut [Station],
+    until: u64,
+    steps: &mut Steps<L>,
+) -> Result<(), NoMemory>
+    requires budget { All (λ station. until ≤ (machine_of station).budget) stations.old }
+    requires forward { All (λ station. station.until ≤ until) stations.old }
+    requires may { MayExchange until stations.old }
+    ensures { OnOk result (HaveAdvanced until stations.old stations.new) }
+{
+    let letters = run_all(alloc, stations, until, steps)?;
+    deliver(stations, letters, steps)
+}
+
+/// Every station runs on its own up to a time. What they send to each other is handed out, in the order of the
+/// stations.
+fn run_all<L: Ledger>(
+    alloc: Global,
+    stations: &mut [Station],
+    until: u64,
+    steps: &mut Steps<L>,
+) -> Result<StampedList, NoMemory>
+    requires budget { All (λ station. until ≤ (machine_of station).budget) stations.old }
+    requires forward { All (λ station. station.until ≤ until) stations.old }
+    ensures ran { OnOk result (stations.new ≡ map (ran_to until) stations.old) }
+    ensures outs { IfOk result (AreHandedOut until stations.old) }
+    ensures good { OnOk result (All IsGood stations.new) }
+{
+    let mut letters = StampedList::new(alloc);
+    for station in stations.iter_mut() {
+        let outs = station.run_to(until, steps)?;
+        append(&mut letters, outs)?;
+    }
+    Ok(letters)
+}
+
+/// Puts messages at the end of a list.
+fn append(letters: &mut StampedList, outs: Outs) -> Result<(), NoMemory>
+    ensures { OnOk result (letters.new ≡ letters.old ++ outs) }
+{
+    if outs.is_empty() {
+        return Ok(());
+    }
+    let mut outs = outs;
+    while let Some(message) = outs.pop_first() {
+        letters.push(message)?;
+    }
+    Ok(())
+}
+
+/// Gives each message to the station that it names.
+fn deliver<L: Ledger>(
+    stations: &mut [Station],
+    letters: StampedList,
+    steps: &mut Steps<L>,
+) -> Result<(), NoMemory>
+    requires may { MayDeliver letters stations.old }
+    requires good { All IsGood stations.old }
+    ensures delivered { OnOk result (stations.new ≡ delivered letters stations.old) }
+    ensures good { OnOk result (All IsGood stations.new) }
+{
+    if letters.is_empty() {
+        return Ok(());
+    }
+    let mut letters = letters;
+    while let Some(letter) = letters.pop_first() {
+        let place = letter.to as usize;
+        match stations[place].accept(letter, steps) {
+            Ok(()) => {}
+            Err(_back) => return Err(NoMemory),
+        }
+    }
+    Ok(())
+}
