@@ -1,8 +1,5 @@
-ghost use Rattle.std.specs.Prelude.{◌≡◌, ◌≤◌, length, IfOk};
-ghost use Rattle.std.specs.List.{All};
-ghost use Rattle.rv_decode.specs.Fields.{IsEncodable};
-ghost use Rattle.gen_load.specs.Assembly.{instructions_of};
-ghost use Rattle.gen_load.specs.Generated.{nodes_of, rounds_of, seed_of, machine_of, listing_of, generated};
+ghost use Rattle.std.specs.Prelude.{◌≡◌, ◌≤◌, IfOk};
+ghost use Rattle.gen_load.specs.Generated.{machine_of, listing_of, generated};
 
 use crate::assembly::assemble;
 use crate::line::Line;
