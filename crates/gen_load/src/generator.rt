@@ -1,4 +1,5 @@
 ghost use Rattle.std.specs.Prelude.{◌≡◌, ◌≤◌, IfOk};
+ghost use Rattle.machine_json.specs.Description.{HasImages};
 ghost use Rattle.gen_load.specs.Generated.{machine_of, listing_of, generated};
 
 use crate::assembly::assemble;
@@ -12,7 +13,8 @@ use wt_params::{Machine, MachineParts, NoMemory};
 #[tactic(auto, using(crate::proofs::Programs::program_encodable, crate::proofs::Programs::program_short), unfolding(crate::specs::Generated::generated))]
 pub fn generate(alloc: Global, number: u64) -> Result<Description, NoMemory>
     requires { number ≤ 9999 }
-    ensures { IfOk result (λ description. description ≡ generated number) }
+    ensures value { IfOk result (λ description. description ≡ generated number) }
+    ensures images { IfOk result HasImages }
 {
     let listing = listing(alloc, number)?;
     let bytes = assemble(alloc, listing.as_slice())?;
