@@ -1,7 +1,7 @@
 /*
  * Lays a program out from address 0: the start, the other code, constants, variables with values, and last the
  * variables that begin as 0, of which the image holds nothing. The stack comes down from the end of private memory
- * towards them.
+ * towards them. The one node has no shared memory, so what is to be shared stands with its variables.
  */
 OUTPUT_ARCH(riscv)
 ENTRY(start)
@@ -22,7 +22,7 @@ SECTIONS
 {
     .text : { *(.start) *(.text .text.*) } > private :code
     .rodata : { *(.rodata .rodata.* .srodata .srodata.*) } > private :code
-    .data : { *(.data .data.* .sdata .sdata.*) } > private :variables
+    .data : { *(.data .data.* .sdata .sdata.*) *(.shared .shared.*) } > private :variables
     .bss (NOLOAD) : { *(.bss .bss.* .sbss .sbss.* COMMON) } > private :variables
 
     /DISCARD/ : { *(.comment) *(.note .note.*) *(.eh_frame) }

@@ -1,6 +1,12 @@
 /*
- * The environment calls of wwt, each as a function. A call is the instruction ecall with its number in a7, its argument
- * in a0 and its answer in a0, or in a0 and a1. No call changes memory or any other register.
+ * The environment calls and the annotations of wwt, each as a function. A call is the instruction ecall with its number
+ * in a7, its argument in a0 and its answer in a0, or in a0 and a1. No call changes memory or any other register.
+ *
+ * An annotation tells what the node is going to do with the block of shared memory that an address lies in. It changes
+ * nothing that a program can see but the time that its work takes.
+ *
+ * What is declared with WWT_SHARED stands in shared memory where machine.ld lays the program out: all nodes have it in
+ * common. Of all else each node has its own.
  *
  * Compiled for another processor than RISC-V, or with -DHOST, the same functions are those of a machine with one node,
  * and put their bytes out by putchar, so that what a program prints here and there can be compared. The host's clock
@@ -72,6 +78,29 @@ __attribute__((noreturn)) static inline void wwt_exit(uint32_t code)
     __builtin_unreachable();
 }
 
+#define WWT_SHARED __attribute__((section(".shared")))
+
+/* The first address of shared memory. */
+#define WWT_SHARED_BASE 0x80000000u
+
+/* The block will be read: it is fetched, and the node waits for it. */
+static inline void wwt_check_out_s(const volatile void *block)
+{
+    __asm__ volatile(".insn i 0x0b, 0, x0, %0, 0" : : "r"(block) : "memory");
+}
+
+/* The block will be written: it is fetched for this node alone, and the node waits for it. */
+static inline void wwt_check_out_x(const volatile void *block)
+{
+    __asm__ volatile(".insn i 0x0b, 1, x0, %0, 0" : : "r"(block) : "memory");
+}
+
+/* The block isn't used for now: it is given back to its home. */
+static inline void wwt_check_in(const volatile void *block)
+{
+    __asm__ volatile(".insn i 0x0b, 2, x0, %0, 0" : : "r"(block) : "memory");
+}
+
 #else
 
 #include <stdio.h>
@@ -104,6 +133,23 @@ static inline void wwt_barrier(void)
 __attribute__((noreturn)) static inline void wwt_exit(uint32_t code)
 {
     exit((int)code);
+}
+
+#define WWT_SHARED
+
+static inline void wwt_check_out_s(const volatile void *block)
+{
+    (void)block;
+}
+
+static inline void wwt_check_out_x(const volatile void *block)
+{
+    (void)block;
+}
+
+static inline void wwt_check_in(const volatile void *block)
+{
+    (void)block;
 }
 
 #endif

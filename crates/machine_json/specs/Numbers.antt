@@ -3,6 +3,7 @@ use Rattle.std.specs.Prelude.{◌≡◌, ℕ, ◌==◌, Bool, true, false, ◌�
 use Rattle.std.specs.Option.{option_or}
 use Rattle.wt_params.specs.declared.parts.Field.{Field}
 use Rattle.wt_params.specs.declared.parts.Field.TheVariants.{Nodes, PrivateBytes, BlockBytes, Blocks, Sets, Ways, Latency, SelfLatency, Quantum, EventLimit, Budget, Op, Taken, Mem, Hit, Cico, Call, Fill, Trap, TrapEach}
+use Rattle.wt_params.specs.declared.parts.CostParts.{CostParts}
 use Rattle.wt_params.specs.declared.parts.MachineParts.{MachineParts}
 use Rattle.wt_params.specs.Fields.{number_of, is_in_range, fault_among, fault_of, key_of}
 use Rattle.serde_json.specs.Data.{Data, Members}
@@ -21,33 +22,63 @@ is_required _ = false
 abbrev pub number_or : Data → Field → ℕ → ℕ
 number_or description field default = unwrap_or (option_and_then whole_number (value_of description field)) default
 
--- The numbers of a description, with the defaults of those that aren't there. A quantum is as long as the latency unless
--- it is given. Nodes have no default: without them the description is refused.
-unfoldable pub parts_of : Data → MachineParts
-parts_of description = record {
-  nodes = number_or description Nodes 0;
-  private_bytes = number_or description PrivateBytes 1048576;
-  block_bytes = number_or description BlockBytes 32;
-  blocks = number_or description Blocks 1024;
-  sets = number_or description Sets 64;
-  ways = number_or description Ways 4;
-  latency = number_or description Latency 100;
-  self_latency = number_or description SelfLatency 10;
-  quantum = number_or description Quantum (number_or description Latency 100);
-  event_limit = number_or description EventLimit 4294967296;
-  budget = number_or description Budget 4294967296;
-  costs = record {
-    op = number_or description Op 1;
-    taken = number_or description Taken 2;
-    mem = number_or description Mem 1;
-    hit = number_or description Hit 1;
-    cico = number_or description Cico 1;
-    call = number_or description Call 1;
-    fill = number_or description Fill 4;
-    trap = number_or description Trap 250;
-    trap_each = number_or description TrapEach 5;
-  };
+-- a latency where none is given, and with it a quantum
+abbrev pub default_latency : ℕ
+default_latency = 100
+
+-- the machine of so many nodes whose every other number has its default
+abbrev pub default_parts_of : ℕ → MachineParts
+default_parts_of nodes = record {
+  nodes = nodes;
+  private_bytes = 1048576;
+  block_bytes = 32;
+  blocks = 1024;
+  sets = 64;
+  ways = 4;
+  latency = default_latency;
+  self_latency = 10;
+  quantum = default_latency;
+  event_limit = 4294967296;
+  budget = 4294967296;
+  costs = record { op = 1; taken = 2; mem = 1; hit = 1; cico = 1; call = 1; fill = 4; trap = 250; trap_each = 5 };
 }
+
+-- the costs of a description, and others in the places of those that aren't there
+abbrev pub costs_or : Data → CostParts → CostParts
+costs_or description default = record {
+  op = number_or description Op default.op;
+  taken = number_or description Taken default.taken;
+  mem = number_or description Mem default.mem;
+  hit = number_or description Hit default.hit;
+  cico = number_or description Cico default.cico;
+  call = number_or description Call default.call;
+  fill = number_or description Fill default.fill;
+  trap = number_or description Trap default.trap;
+  trap_each = number_or description TrapEach default.trap_each;
+}
+
+-- The numbers of a description, and others in the places of those that aren't there. A quantum is as long as the latency
+-- unless it is given.
+abbrev pub numbers_or : Data → MachineParts → MachineParts
+numbers_or description default = record {
+  nodes = number_or description Nodes default.nodes;
+  private_bytes = number_or description PrivateBytes default.private_bytes;
+  block_bytes = number_or description BlockBytes default.block_bytes;
+  blocks = number_or description Blocks default.blocks;
+  sets = number_or description Sets default.sets;
+  ways = number_or description Ways default.ways;
+  latency = number_or description Latency default.latency;
+  self_latency = number_or description SelfLatency default.self_latency;
+  quantum = number_or description Quantum (number_or description Latency default.latency);
+  event_limit = number_or description EventLimit default.event_limit;
+  budget = number_or description Budget default.budget;
+  costs = costs_or description default.costs;
+}
+
+-- The numbers of a description, with the defaults of those that aren't there. Nodes have no default: without them the
+-- description is refused.
+unfoldable pub parts_of : Data → MachineParts
+parts_of description = numbers_or description (default_parts_of 0)
 
 -- what stands at a key isn't there though it has to, or is no whole number
 abbrev pub kind_fault : Bool → List ℕ → Option Data → Option MachineFault

@@ -2,11 +2,12 @@ ghost use Rattle.std.specs.Prelude.{◌≡◌, ◌≢◌, OnOk, IfOk, IfErr, IfS
 ghost use Rattle.std.specs.Option.{option_map, option_and_then};
 ghost use Rattle.machine_json.specs.Answers.{IsFaultOf};
 ghost use Rattle.machine_json.specs.Description.{numbers_fault};
-ghost use Rattle.machine_json.specs.Numbers.{parts_of, number_or, kind_fault, number_fault, fields_fault, version_fault, costs_fault, IsFirstAmong};
+ghost use Rattle.machine_json.specs.Numbers.{parts_of, costs_or, number_or, kind_fault, number_fault, fields_fault, version_fault, costs_fault, IsFirstAmong};
 ghost use Rattle.machine_json.specs.Table.{whole_number};
 ghost use Rattle.serde_json.specs.View.{view};
 ghost use Rattle.wt_params.specs.Fields.{fault_among, machine_of};
 
+use crate::default::default_parts;
 use crate::fault::MachineFault;
 use crate::keys::{COSTS, OWN_FIELDS, Table, VERSION, cost_key, key, value_of};
 use serde_json::Value;
@@ -128,31 +129,38 @@ fn check_costs(alloc: Global, description: &Value) -> Result<(), MachineFault>
 fn parts_of(description: &Value) -> MachineParts
     ensures { result ≡ parts_of (view description.now) }
 {
-    let latency = number_or(description, Field::Latency, 100);
-    let costs = CostParts {
-        op: number_or(description, Field::Op, 1),
-        taken: number_or(description, Field::Taken, 2),
-        mem: number_or(description, Field::Mem, 1),
-        hit: number_or(description, Field::Hit, 1),
-        cico: number_or(description, Field::Cico, 1),
-        call: number_or(description, Field::Call, 1),
-        fill: number_or(description, Field::Fill, 4),
-        trap: number_or(description, Field::Trap, 250),
-        trap_each: number_or(description, Field::TrapEach, 5),
-    };
+    let default = default_parts(0);
+    let latency = number_or(description, Field::Latency, default.latency);
     MachineParts {
-        nodes: number_or(description, Field::Nodes, 0),
-        private_bytes: number_or(description, Field::PrivateBytes, 1_048_576),
-        block_bytes: number_or(description, Field::BlockBytes, 32),
-        blocks: number_or(description, Field::Blocks, 1024),
-        sets: number_or(description, Field::Sets, 64),
-        ways: number_or(description, Field::Ways, 4),
+        nodes: number_or(description, Field::Nodes, default.nodes),
+        private_bytes: number_or(description, Field::PrivateBytes, default.private_bytes),
+        block_bytes: number_or(description, Field::BlockBytes, default.block_bytes),
+        blocks: number_or(description, Field::Blocks, default.blocks),
+        sets: number_or(description, Field::Sets, default.sets),
+        ways: number_or(description, Field::Ways, default.ways),
         latency,
-        self_latency: number_or(description, Field::SelfLatency, 10),
+        self_latency: number_or(description, Field::SelfLatency, default.self_latency),
         quantum: number_or(description, Field::Quantum, latency),
-        event_limit: number_or(description, Field::EventLimit, 4_294_967_296),
-        budget: number_or(description, Field::Budget, 4_294_967_296),
-        costs,
+        event_limit: number_or(description, Field::EventLimit, default.event_limit),
+        budget: number_or(description, Field::Budget, default.budget),
+        costs: costs_of(description, &default.costs),
+    }
+}
+
+/// The costs of a description, and others in the places of those that aren't there.
+fn costs_of(description: &Value, default: &CostParts) -> CostParts
+    ensures { result ≡ costs_or (view description.now) default.now }
+{
+    CostParts {
+        op: number_or(description, Field::Op, default.op),
+        taken: number_or(description, Field::Taken, default.taken),
+        mem: number_or(description, Field::Mem, default.mem),
+        hit: number_or(description, Field::Hit, default.hit),
+        cico: number_or(description, Field::Cico, default.cico),
+        call: number_or(description, Field::Call, default.call),
+        fill: number_or(description, Field::Fill, default.fill),
+        trap: number_or(description, Field::Trap, default.trap),
+        trap_each: number_or(description, Field::TrapEach, default.trap_each),
     }
 }
 

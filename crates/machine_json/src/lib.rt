@@ -4,6 +4,7 @@
 //! what it refuses, with which key and which value, is the definition of `specs/Description.antt`.
 #![tactic(auto)]
 
+mod default;
 mod description;
 mod fault;
 mod fields;
@@ -12,6 +13,7 @@ mod keys;
 mod lists;
 mod reader;
 
+pub use default::default_parts;
 pub use description::{Description, ImageSpec};
 pub use fault::MachineFault;
 pub use lists::{ByteList, FileName, ImageSpecs, Key};

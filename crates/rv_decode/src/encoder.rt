@@ -1,4 +1,5 @@
-ghost use Rattle.std.specs.Prelude.{◌≡◌, ◌↔◌, IsSome, IfSome, Some};
+ghost use Rattle.std.specs.Prelude.{◌≡◌, ◌↔◌, IsSome, IfSome};
+ghost use Rattle.rv_decode.specs.Encoding.{encode_of, constant_word_of};
 ghost use Rattle.rv_decode.specs.Fields.{IsRegister, FitsOperation, IsEncodable};
 ghost use Rattle.rv_decode.specs.Table.{decode_of};
 
@@ -10,12 +11,12 @@ use crate::formats::{b_word, i_word, j_word, r_word, s_word, u_word};
 use crate::instr::Instr;
 use rv_word::AluOp;
 
-/// A word that means the instruction. None exactly for Illegal, for OpImm with Sub, and where a field is outside
+/// The word of the instruction, which means it. None exactly for Illegal, for OpImm with Sub, and where a field is outside
 /// its range. Fence is the word 0x0ff0000f, which orders everything.
 pub fn encode(instr: &Instr) -> Option<u32>
     ensures answered { IsSome result ↔ IsEncodable instr.now }
     ensures word { IfSome result (λ word. decode_of word ≡ instr.now) }
-    ensures fence { instr.now ≡ Instr.Fence → result ≡ Some 0x0ff0000f }
+    ensures exact { IfSome result (λ word. word ≡ encode_of instr.now) }
 {
     if is_encodable(instr) {
         Some(word_of(instr))
@@ -24,11 +25,12 @@ pub fn encode(instr: &Instr) -> Option<u32>
     }
 }
 
-/// A word of the instruction.
+/// The word of the instruction.
+#[tactic(auto, unfolding(crate::specs::Encoding::encode_of))]
 fn word_of(instr: &Instr) -> u32
     requires { IsEncodable instr.now }
     ensures meaning { decode_of result ≡ instr.now }
-    ensures fence { instr.now ≡ Instr.Fence → result ≡ 0x0ff0000f }
+    ensures exact { result ≡ encode_of instr.now }
 {
     match *instr {
         Instr::Lui { rd, imm } => u_word(0x37, rd, imm),
@@ -60,7 +62,8 @@ fn constant_word(op: AluOp, rd: u8, rs1: u8, imm: i32) -> u32
     requires rd { IsRegister rd }
     requires rs1 { IsRegister rs1 }
     requires imm { FitsOperation op imm }
-    ensures { decode_of result ≡ Instr.OpImm op rd rs1 imm }
+    ensures meaning { decode_of result ≡ Instr.OpImm op rd rs1 imm }
+    ensures exact { result ≡ constant_word_of op rd rs1 imm }
 {
     match op {
         AluOp::Sll | AluOp::Srl | AluOp::Sra => {

@@ -6,8 +6,8 @@ use Rattle.rv_decode.proofs.Congruence.{same_three}
 use Rattle.rv_decode.proofs.Rows.{shift_row, constant_row, shift_by_name, short_by_name, amount_of_shift}
 use Rattle.rv_decode.proofs.encoder.constant_word.Goals as goal
 
-pub returns-in-Sll : goal.returns-in-Sll
-returns-in-Sll c =
+pub returns-in-Sll-clause-meaning : goal.returns-in-Sll-clause-meaning
+returns-in-Sll-clause-meaning c =
     let shift = shift_by_name c.args.op c.in-Sll.is in
     let plain = to_z-of_z w32 c.args.imm (search rules) in
     let amount = amount_of_shift c.args.op c.args.imm shift c.requires.imm in
@@ -17,8 +17,8 @@ returns-in-Sll c =
     ∙ same_three (OpImm c.args.op) c.r_word.ensures.rd c.r_word.ensures.rs1
     (ap pos c.r_word.ensures.rs2 ∙ (ap (λ z. pos (unsigned_abs z)) plain ∙ amount))
 
-pub returns-in_default : goal.returns-in_default
-returns-in_default c =
+pub returns-in_default-clause-meaning : goal.returns-in_default-clause-meaning
+returns-in_default-clause-meaning c =
     let short = short_by_name c.args.op c.args.imm c.requires.imm c.in_default.not-Sll c.in_default.not-Srl c.in_default.not-Sra in
     constant_row c.args.op short.0 _ c.i_word.ensures.opcode
     (c.i_word.ensures.funct3 ∙ c.funct3_of_alu-in_default.ensures.value)

@@ -1,0 +1,4 @@
+pub mod Assembly
+pub mod Generated
+pub mod Lines
+pub mod Listings
