@@ -6,7 +6,7 @@ use Rattle.wt_outside.specs.Growth.{Grows, GrowsByPrefix}
 use Rattle.wt_outside.proofs.GrowthLemmas.{grows_then, grows_then_prefix, prefix_longer, prefix_all}
 use Rattle.std.proofs.lemmas.List.{append-nil, get_or-map, take_more, take_all, length-map}
 use Rattle.std.specs.Borrow.{Bor}
-use Rattle.wwt_run.specs.Report.{joined}
+use Rattle.wwt_run.specs.Refused.{joined}
 
 pub on_err : {T E P : Type 0} (r : Result T E) → P → OnErr r P
 on_err (Ok x) p = tt

@@ -6,7 +6,7 @@ use Rattle.wwt_case.specs.declared.refusal.Refusal.{Refusal}
 use Rattle.wwt_case.specs.declared.refusal.Refusal.TheVariants.{Image}
 use Rattle.wwt_case.specs.declared.refusal.ImageRefusal.TheVariants.{Outside}
 use Rattle.wwt_run.specs.Refused.{error_line}
-use Rattle.wwt_run.specs.Report.{joined}
+use Rattle.wwt_run.specs.Refused.{joined}
 
 pub outside_line : (refusal : Refusal) (number address : ℕ) (image digits : List ℕ) → refusal ≡ Image number (Outside address) → image ≡ decimal number → digits ≡ eight_digits address
     → joined (codes "wwt: image " ∷ image ∷ codes ": " ∷ codes "outside 0x" ∷ digits ∷ (10 ∷ []) ∷ []) ≡ error_line refusal

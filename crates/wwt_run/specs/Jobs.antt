@@ -1,5 +1,5 @@
 -- What a job writes, and how it ends. Own.
-use Rattle.std.specs.Prelude.{◌≡◌, ℕ, false, List, [], Result, Ok, Err}
+use Rattle.std.specs.Prelude.{◌≡◌, ℕ, Bool, true, false, List, [], Result, Ok, Err}
 use Rattle.wt_params.specs.declared.parts.MachineParts.{MachineParts}
 use Rattle.wt_params.specs.Machine.{flat_machine}
 use Rattle.image_loader.specs.Images.{LoadedImages}
@@ -7,43 +7,56 @@ use Rattle.wt_listing.specs.Listing.{machine_text, words_text}
 use Rattle.discrete_events.specs.Serial.{final}
 use Rattle.node.specs.React.{wind_tunnel}
 use Rattle.wwt_case.specs.declared.job.Job.{Job}
-use Rattle.wwt_case.specs.declared.job.Job.TheVariants.{Check, Dis, Flat}
+use Rattle.wwt_case.specs.declared.job.Job.TheVariants.{Check, Dis, Flat, Run, Load}
 use Rattle.wwt_case.specs.declared.refusal.Refusal.{Refusal}
 use Rattle.wwt_case.specs.declared.refusal.Refusal.TheVariants.{Write, Memory}
 use Rattle.wt_listing.specs.declared.fault.ListingFault.{ListingFault}
 use Rattle.wt_listing.specs.declared.fault.ListingFault.TheVariants.{Failed, NoMemory}
 use Rattle.wwt_run.specs.declared.status.Status.{Status}
 use Rattle.wwt_run.specs.declared.status.Status.TheVariants.{Done}
-use Rattle.wwt_run.specs.World.{World, start_of}
-use Rattle.wwt_run.specs.Outcome.{head_of}
-use Rattle.wwt_run.specs.Report.{report}
+use Rattle.quantum.specs.World.{World, start_of}
+use Rattle.quantum.specs.Outcome.{head_of}
+use Rattle.wt_report.specs.declared.options.Options.{Options}
+use Rattle.wt_report.specs.Report.{report}
 use Rattle.wwt_run.specs.Status.{status_of_world, status_of_refusal}
 
--- the world in which a run ends, and nothing is traced
-abbrev pub final_of : MachineParts → LoadedImages → World
-final_of machine loaded = final (wind_tunnel machine) (start_of machine loaded false)
+-- the world in which a run ends
+abbrev pub final_of : MachineParts → LoadedImages → Bool → World
+final_of machine loaded traced = final (wind_tunnel machine) (start_of machine loaded traced)
 
 -- what is written for a world
-abbrev pub out_of : MachineParts → World → List ℕ
-out_of machine world = report machine (head_of machine world) world.nodes
+abbrev pub out_of : MachineParts → World → Options → List ℕ
+out_of machine world options = report machine (head_of machine world) world.nodes options
 
 -- the status of a run
-unfoldable pub status_of_run : MachineParts → LoadedImages → Status
-status_of_run machine loaded = status_of_world machine (final_of machine loaded)
+unfoldable pub status_of_run : MachineParts → LoadedImages → Options → Status
+status_of_run machine loaded options = status_of_world machine (final_of machine loaded options.trace)
 
--- what a run writes
-unfoldable pub output_of_run : MachineParts → LoadedImages → List ℕ
-output_of_run machine loaded = out_of machine (final_of machine loaded)
+-- what a run writes: the report of the world in which it ends
+unfoldable pub output_of_run : MachineParts → LoadedImages → Options → List ℕ
+output_of_run machine loaded options = out_of machine (final_of machine loaded options.trace) options
+
+-- a report that tells the events and the memories where they are asked for
+abbrev pub asked_of : Bool → Bool → Options
+asked_of trace memory = record { trace = trace; memory = memory; summary = false }
+
+-- the outcome and the sums alone
+abbrev pub summary_of : Options
+summary_of = record { trace = false; memory = false; summary = true }
 
 abbrev pub output_of_job : Job → List ℕ
 output_of_job (Check machine loaded) = machine_text machine loaded
 output_of_job (Dis image) = words_text image
-output_of_job (Flat loaded) = output_of_run flat_machine loaded
+output_of_job (Flat loaded) = output_of_run flat_machine loaded (asked_of false false)
+output_of_job (Run machine loaded trace memory) = output_of_run machine loaded (asked_of trace memory)
+output_of_job (Load machine loaded) = output_of_run machine loaded summary_of
 
 abbrev pub status_of_job : Job → Status
 status_of_job (Check machine loaded) = Done
 status_of_job (Dis image) = Done
-status_of_job (Flat loaded) = status_of_run flat_machine loaded
+status_of_job (Flat loaded) = status_of_run flat_machine loaded (asked_of false false)
+status_of_job (Run machine loaded trace memory) = status_of_run machine loaded (asked_of trace memory)
+status_of_job (Load machine loaded) = status_of_run machine loaded summary_of
 
 -- the status and the output of a case
 abbrev pub status_of : Result Job Refusal → Status

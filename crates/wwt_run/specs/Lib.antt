@@ -1,7 +1,3 @@
-pub mod World
-pub mod Outcome
-pub mod Alone
-pub mod Report
 pub mod Status
 pub mod Refused
 pub mod Jobs

@@ -1,5 +1,5 @@
 -- The one line that tells of a refusal, part by part. Own.
-use Rattle.std.specs.Prelude.{ℕ, List, [], ◌∷◌, ◌++◌, codes, decimal, Result, Ok, Err}
+use Rattle.std.specs.Prelude.{ℕ, List, [], ◌∷◌, ◌++◌, flat_map, codes, decimal, Result, Ok, Err}
 use Rattle.elf_image.specs.declared.fault.ImageFault.{ImageFault}
 use Rattle.elf_image.specs.declared.fault.ImageFault.TheVariants as files
 use Rattle.machine_json.specs.declared.fault.MachineFault.{MachineFault}
@@ -10,7 +10,10 @@ use Rattle.wwt_case.specs.declared.refusal.ImageRefusal.TheVariants.{TooLong, El
 use Rattle.wwt_case.specs.declared.refusal.Refusal.{Refusal}
 use Rattle.wwt_case.specs.declared.refusal.Refusal.TheVariants.{Usage, Read, Machine, Image, Write, Memory}
 use Rattle.wwt_run.specs.declared.status.Status.{Status}
-use Rattle.wwt_run.specs.Report.{joined}
+
+-- the parts of a line, one after another
+abbrev pub joined : List (List ℕ) → List ℕ
+joined parts = flat_map (λ part. part) parts
 
 abbrev pub usage_text : List ℕ
 usage_text = codes "wwt: usage: run [--workers W] [--trace] [--memory] [--budget B] MACHINE, check MACHINE, load NUMBER [--workers W], dis IMAGE, flat"

@@ -10,8 +10,8 @@ use Rattle.wwt_case.specs.declared.refusal.Refusal.{Refusal}
 use Rattle.wwt_case.specs.declared.refusal.Refusal.TheVariants as refusals
 use Rattle.wwt_run.specs.declared.status.Status.{Status}
 use Rattle.wwt_run.specs.declared.status.Status.TheVariants.{Done, NodeFault, Usage, Budget, EventLimit, Stalled, BadMachine, BadImage, ReadFault, WriteFault, NoMemory}
-use Rattle.wwt_run.specs.World.{World}
-use Rattle.wwt_run.specs.Outcome.{outcome_of}
+use Rattle.quantum.specs.World.{World}
+use Rattle.quantum.specs.Outcome.{outcome_of}
 
 -- the exit status
 abbrev pub code_of : Status → ℕ

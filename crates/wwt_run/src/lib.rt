@@ -1,10 +1,9 @@
 //! The simulation of a whole machine, its report, and the top call of the program.
 #![tactic(auto)]
 
-mod flat;
 mod perform;
 mod refuse;
-mod report;
+mod run;
 mod simulate;
 mod status;
 mod top;

@@ -6,7 +6,7 @@ ghost use Rattle.machine_json.specs.declared.fault.MachineFault.TheVariants.{Ran
 ghost use Rattle.wwt_case.specs.declared.refusal.Refusal.TheVariants.{Memory, Machine, Image};
 ghost use Rattle.wwt_run.specs.Answer.{Tells};
 ghost use Rattle.wwt_run.specs.Refused.{error_line, file_text_of};
-ghost use Rattle.wwt_run.specs.Report.{joined};
+ghost use Rattle.wwt_run.specs.Refused.{joined};
 ghost use Rattle.wwt_run.specs.Status.{status_of_refusal};
 
 use crate::status::Status;

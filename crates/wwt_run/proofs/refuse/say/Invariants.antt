@@ -1,6 +1,6 @@
 use Rattle.std.proofs.Common.{◌≡◌, map, take}
 use Rattle.wt_outside.specs.Growth.{Grows}
-use Rattle.wwt_run.specs.Report.{joined}
+use Rattle.wwt_run.specs.Refused.{joined}
 use Rattle.wwt_run.proofs.refuse.say.Given as goal
 
 -- The parts so far are written, and nothing has failed.

@@ -1,0 +1,77 @@
+ghost use Rattle.std.specs.Prelude.{◌≡◌, ◌≢◌, ◌≤◌, ◌⊎◌, Err, IfOk, IfErr, OnOk, IsErrOf};
+ghost use Rattle.image_loader.specs.Images.{IsFor};
+ghost use Rattle.wt_outside.specs.Faults.{Rose};
+ghost use Rattle.wt_outside.specs.Growth.{Grows, GrowsByPrefix};
+ghost use Rattle.engine.specs.Engine.{nodes_of};
+ghost use Rattle.node.specs.State.{exits_well};
+ghost use Rattle.wwt_run.specs.Jobs.{output_of_run, status_of_run};
+ghost use Rattle.wwt_run.specs.Status.{status_after_of};
+
+use crate::simulate::simulate;
+use crate::status::Status;
+use image_loader::Loaded;
+use quantum::Station;
+use std::alloc::Global;
+use wt_outside::Sink;
+use wt_params::Machine;
+use wt_proto::{Cause, Mode};
+use wt_report::{Options, ReportFault, write_report};
+use wt_stats::Outcome;
+use wwt_case::Refusal;
+
+/// Runs a machine, and writes the report.
+pub fn run<K: Sink>(
+    alloc: Global,
+    machine: &Machine,
+    loaded: &Loaded,
+    options: &Options,
+    out: &mut K,
+) -> Result<Status, Refusal>
+    requires { IsFor machine.now loaded.now }
+    ensures status { IfOk result (λ status. status ≡ status_of_run machine.now loaded.now options.now) }
+    ensures whole { OnOk result (Grows (K.written out.old) (K.written out.new) (output_of_run machine.now loaded.now options.now)) }
+    ensures part { GrowsByPrefix (K.written out.old) (K.written out.new) (output_of_run machine.now loaded.now options.now) }
+    ensures kinds { IfErr result (λ refusal. (refusal ≡ Refusal.Write) ⊎ (refusal ≡ Refusal.Memory)) }
+    ensures failed { IsErrOf result Refusal.Write → Rose (K.faults out.old) (K.faults out.new) }
+    ensures steady { (result ≢ Err Refusal.Write) → K.faults out.new ≡ K.faults out.old }
+    ensures later { K.faults out.old ≤ K.faults out.new }
+{
+    let engine = simulate(alloc, machine, loaded, options.trace)?;
+    let head = engine.head();
+    let stations = engine.stations();
+    match write_report(alloc, &head, machine, stations, options, out) {
+        Ok(()) => Ok(status_after(head.outcome, stations)),
+        Err(ReportFault::Failed) => Err(Refusal::Write),
+        Err(ReportFault::NoMemory) => Err(Refusal::Memory),
+    }
+}
+
+/// The status of a run that ended so, with these nodes.
+fn status_after(outcome: Outcome, stations: &[Station]) -> Status
+    ensures { result ≡ status_after_of outcome (nodes_of stations.now) }
+{
+    match outcome {
+        Outcome::Finished => {
+            if stations.iter().all(has_exited_well) {
+                Status::Done
+            } else {
+                Status::NodeFault
+            }
+        }
+        Outcome::Budget => Status::Budget,
+        Outcome::EventLimit => Status::EventLimit,
+        Outcome::Stalled => Status::Stalled,
+    }
+}
+
+/// Whether the program of a node ended itself by the code 0.
+fn has_exited_well(station: &Station) -> bool
+    ensures { result ≡ exits_well station.now.node.state }
+{
+    matches!(
+        station.node().mode(),
+        Mode::Stopped {
+            cause: Cause::Exit { code: 0 },
+        }
+    )
+}
