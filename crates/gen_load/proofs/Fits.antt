@@ -1,4 +1,4 @@
--- A test that an instruction of the listings passes exactly where its fields are in range, and which computes.
+-- A test that computes: an instruction that passes it is encodable. It knows the kinds of instructions that the listings have.
 use Rattle.std.proofs.Common.{◌≡◌, ◌<◌, ℕ, ℤ, pos, negsuc, ◌%◌, ◌^◌, ◌==◌, Bool, true, false, ◌&&◌, nat_lt, List, [], ◌∷◌, refl, rules, tests, arith}
 use Rattle.std.specs.List.{All, list_all}
 use Rattle.std.specs.Int.{w32, cast_unsigned}
