@@ -1,5 +1,5 @@
 -- What a job's parts read is what the job reads.
-use Rattle.std.proofs.Common.{◌≡◌, ℕ, List, [], ◌∷◌, Option, Some, Result, Ok, Err, ◌++◌, sym, ap, ap₂, subst, ◌∙◌}
+use Rattle.std.proofs.Common.{◌≡◌, ℕ, Bool, List, [], ◌∷◌, Option, Some, Result, Ok, Err, ◌++◌, sym, ap, ap₂, subst, ◌∙◌}
 use Rattle.elf_image.specs.declared.image.Image.{Image}
 use Rattle.elf_image.specs.Flat.{flat_image}
 use Rattle.image_loader.specs.Images.{LoadedImages, loaded_with}
@@ -12,10 +12,12 @@ use Rattle.wt_outside.specs.Files.{Files}
 use Rattle.wwt_words.specs.declared.command.Command.{Command}
 use Rattle.wwt_words.specs.declared.command.Command.TheVariants as commands
 use Rattle.wwt_words.specs.Words.{command_of}
+use Rattle.gen_load.specs.Generated.{generated}
+use Rattle.wwt_case.specs.declared.job.Described.{Described}
 use Rattle.wwt_case.specs.declared.job.Job.{Job}
 use Rattle.wwt_case.specs.declared.refusal.Refusal.{Refusal}
 use Rattle.wwt_case.specs.Programs.{images_from, names_from}
-use Rattle.wwt_case.specs.Case.{case_of, names_of, command_case, command_names, check_case, check_names, dis_case, flat_case, description_case, description_or, machine_case, input_name, IsFlat}
+use Rattle.wwt_case.specs.Case.{case_of, names_of, command_case, command_names, check_case, run_case, generated_case, generated_names, described_case, described_names, dis_case, flat_case, description_case, description_or, machine_case, input_name, IsFlat}
 use Rattle.wwt_case.specs.Reading.{Answers, Store, Reads}
 use Rattle.wwt_case.proofs.ReadLemmas.{reads_then, reads_stopped}
 
@@ -26,23 +28,42 @@ all_images description found entries store result none all read =
     (subst (λ (e : List ImageSpec). Reads (images_from found 0 e) (names_from 0 e) store result) all read)
 
 -- a description, and then its machine
-pub check_done : {S : Type 0} (name : List ℕ) (description : Description) (files after : Option Files) (faults : S → ℕ) (asked : S → List ℕ → S → Type 0) (s0 s1 s2 : S) (result : Result Job Refusal) → after ≡ files
+pub described_done : {S : Type 0} (name : List ℕ) (description : Description) (files after : Option Files) (faults : S → ℕ) (asked : S → List ℕ → S → Type 0) (s0 s1 s2 : S) (result : Result Described Refusal) → after ≡ files
     → Reads (description_case name) (λ _. name ∷ []) (record { files = files; faults = faults; asked = asked; before = s0; now = s1 }) (Ok description)
     → Reads (machine_case description) (names_from 0 description.images) (record { files = after; faults = faults; asked = asked; before = s1; now = s2 }) result
-    → Reads (check_case name) (check_names name) (record { files = files; faults = faults; asked = asked; before = s0; now = s2 }) result
-check_done name description files after faults asked s0 s1 s2 result same first second =
+    → Reads (described_case name) (described_names name) (record { files = files; faults = faults; asked = asked; before = s0; now = s2 }) result
+described_done name description files after faults asked s0 s1 s2 result same first second =
     reads_then (description_case name) (λ _. name ∷ []) machine_case (λ (d : Description) given. names_from 0 d.images given) files faults asked s0 s1 s2 description result
     first (subst (λ (t : Option Files). Reads (machine_case description) (names_from 0 description.images) (record { files = t; faults = faults; asked = asked; before = s1; now = s2 }) result) same second)
 
-pub check_stopped : {S : Type 0} (name : List ℕ) (store : Store S) (refusal : Refusal) → Reads (description_case name) (λ _. name ∷ []) store (Err refusal) → Reads (check_case name) (check_names name) store (Err refusal)
-check_stopped name store refusal first =
+pub described_stopped : {S : Type 0} (name : List ℕ) (store : Store S) (refusal : Refusal) → Reads (description_case name) (λ _. name ∷ []) store (Err refusal) → Reads (described_case name) (described_names name) store (Err refusal)
+described_stopped name store refusal first =
     reads_stopped (description_case name) (λ _. name ∷ []) machine_case (λ (d : Description) given. names_from 0 d.images given) store refusal first
 
+-- the machine of a generated description
+pub generated_is : {S : Type 0} (number : ℕ) (description : Description) (store : Store S) (result : Result Described Refusal) → description ≡ generated number → Reads (machine_case description) (names_from 0 description.images) store result →
+    Reads (machine_case (generated number)) (generated_names number) store result
+generated_is number description store result is read = subst (λ (d : Description). Reads (machine_case d) (names_from 0 d.images) store result) is read
+
 -- the commands
-pub of_check : {S : Type 0} (command : Command) (machine name : List ℕ) (store : Store S) (result : Result Job Refusal) → command ≡ commands.Check machine → name ≡ machine → Reads (check_case name) (check_names name) store result → Reads (command_case (Some command)) (command_names (Some command)) store result
+pub of_check : {S : Type 0} (command : Command) (machine name : List ℕ) (store : Store S) (result : Result Job Refusal) → command ≡ commands.Check machine → name ≡ machine → Reads (check_case name) (described_names name) store result → Reads (command_case (Some command)) (command_names (Some command)) store result
 of_check command machine name store result is same read =
     subst (λ (c : Command). Reads (command_case (Some c)) (command_names (Some c)) store result) (sym is)
-    (subst (λ (n : List ℕ). Reads (check_case n) (check_names n) store result) same read)
+    (subst (λ (n : List ℕ). Reads (check_case n) (described_names n) store result) same read)
+
+-- a run or a load by one worker
+pub of_run : {S : Type 0} (command : Command) (workers : ℕ) (trace memory : Bool) (budget : Option ℕ) (machine name : List ℕ) (store : Store S) (result : Result Job Refusal) → command ≡ commands.Run workers trace memory budget machine → workers ≡ 1 → name ≡ machine →
+    Reads (run_case name budget trace memory) (described_names name) store result → Reads (command_case (Some command)) (command_names (Some command)) store result
+of_run command workers trace memory budget machine name store result is one same read =
+    subst (λ (c : Command). Reads (command_case (Some c)) (command_names (Some c)) store result) (sym is)
+    (subst (λ (n : ℕ). Reads (command_case (Some (commands.Run n trace memory budget machine))) (command_names (Some (commands.Run n trace memory budget machine))) store result) (sym one)
+    (subst (λ (n : List ℕ). Reads (run_case n budget trace memory) (described_names n) store result) same read))
+
+pub of_load : {S : Type 0} (command : Command) (number workers : ℕ) (store : Store S) (result : Result Job Refusal) → command ≡ commands.Load number workers → workers ≡ 1 →
+    Reads (generated_case number) (generated_names number) store result → Reads (command_case (Some command)) (command_names (Some command)) store result
+of_load command number workers store result is one read =
+    subst (λ (c : Command). Reads (command_case (Some c)) (command_names (Some c)) store result) (sym is)
+    (subst (λ (n : ℕ). Reads (command_case (Some (commands.Load number n))) (command_names (Some (commands.Load number n))) store result) (sym one) read)
 
 pub of_dis : {S : Type 0} (command : Command) (image name : List ℕ) (store : Store S) (result : Result Job Refusal) → command ≡ commands.Dis image → name ≡ image → Reads (dis_case name) (λ _. name ∷ []) store result → Reads (command_case (Some command)) (command_names (Some command)) store result
 of_dis command image name store result is same read =

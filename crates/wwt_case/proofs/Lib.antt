@@ -2,3 +2,4 @@ pub mod ReadLemmas
 pub mod ProgramLemmas
 pub mod ImageLemmas
 pub mod CaseLemmas
+pub mod Ranges

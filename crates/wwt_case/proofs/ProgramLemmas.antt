@@ -15,10 +15,10 @@ use Rattle.wwt_case.specs.declared.refusal.Refusal.TheVariants.{Read}
 use Rattle.wwt_case.specs.Programs.{executable, program_of, has_magic, load_case, loaded_or, refused_load}
 use Rattle.wt_params.specs.Machine.{flat_machine}
 use Rattle.elf_image.specs.Flat.{flat_image}
-use Rattle.wwt_case.specs.declared.job.Job.{Job}
-use Rattle.wwt_case.specs.declared.job.Job.TheVariants.{Check, Dis, Flat}
+use Rattle.wwt_case.specs.declared.job.Described.{Described}
+use Rattle.wwt_case.specs.declared.job.Job.TheVariants.{Dis, Flat}
 use Rattle.wwt_case.specs.Files.{and_then}
-use Rattle.wwt_case.specs.Case.{description_or, dis_of, flat_of, loaded_check}
+use Rattle.wwt_case.specs.Case.{description_or, dis_of, flat_of, loaded_machine}
 
 executable_reads_nothing : (number : ℕ) (r : Result Image ImageFault) (name : List ℕ) → executable number r ≢ Err (Read name)
 executable_reads_nothing number (Ok image) name e = cc
@@ -54,7 +54,7 @@ pub dis_reads_nothing : (bytes : List ℕ) (name : List ℕ) → dis_of bytes �
 dis_reads_nothing bytes name e =
     after_program (program_of 0 (has_magic bytes) 0 bytes) name (program_reads_nothing 0 (has_magic bytes) 0 bytes) e
 
-after_load : (made : LoadedImages → Job) (r : Result LoadedImages Refusal) (name : List ℕ) → ((other : List ℕ) → r ≢ Err (Read other)) → and_then r (λ loaded. Ok (made loaded)) ≢ Err (Read name)
+after_load : {B : Type 0} (made : LoadedImages → B) (r : Result LoadedImages Refusal) (name : List ℕ) → ((other : List ℕ) → r ≢ Err (Read other)) → and_then r (λ loaded. Ok (made loaded)) ≢ Err (Read name)
 after_load made (Ok loaded) name none e = cc
 after_load made (Err refusal) name none e = let is : refusal ≡ Read name = cc in none name (ap (λ (r : Refusal). Err r) is)
 
@@ -62,6 +62,6 @@ pub flat_reads_nothing : (bytes : List ℕ) (name : List ℕ) → flat_of bytes 
 flat_reads_nothing bytes name e =
     after_load Flat (load_case flat_machine (flat_image bytes 0 ∷ [])) name (load_reads_nothing flat_machine (flat_image bytes 0 ∷ [])) e
 
-pub check_reads_nothing : (machine : MachineParts) (images : List Image) (name : List ℕ) → loaded_check machine images ≢ Err (Read name)
-check_reads_nothing machine images name e =
-    after_load (Check machine) (load_case machine images) name (load_reads_nothing machine images) e
+pub machine_reads_nothing : (machine : MachineParts) (images : List Image) (name : List ℕ) → loaded_machine machine images ≢ Err (Read name)
+machine_reads_nothing machine images name e =
+    after_load {B = Described} (λ loaded. record { machine = machine; loaded = loaded }) (load_case machine images) name (load_reads_nothing machine images) e

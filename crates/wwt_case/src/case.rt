@@ -1,18 +1,19 @@
-ghost use Rattle.std.specs.Prelude.{◌≡◌, ◌≢◌, ◌⊎◌, ◌∷◌, [], Some, Err, All, length, map, string_bytes, true, false, IfOk, IsErrOf};
+ghost use Rattle.std.specs.Prelude.{◌≡◌, ◌≢◌, ◌≤◌, ◌⊎◌, ◌∷◌, [], Some, Err, All, length, map, string_bytes, true, false, IfOk, IfSome, IsErrOf};
 ghost use Rattle.elf_image.specs.Sizes.{HoldsItsBytes};
 ghost use Rattle.machine_json.specs.Description.{description_of, HasImages};
-ghost use Rattle.wwt_case.specs.Case.{case_of, names_of, is_usage_of, command_case, command_names, check_case, check_names, machine_case, loaded_check, description_case, description_or, dis_case, dis_of, flat_case, flat_of, input_name, IsReady};
+ghost use Rattle.wwt_case.specs.Case.{case_of, names_of, is_usage_of, command_case, command_names, check_case, run_case, with_budget_of, generated_case, generated_names, described_case, described_names, machine_case, loaded_machine, description_case, description_or, dis_case, dis_of, flat_case, flat_of, input_name, HasRanges, IsBudget, IsLoaded, IsReady};
 ghost use Rattle.wwt_case.specs.Programs.{names_from};
 ghost use Rattle.wwt_case.specs.Reading.{Answers, Reads, IsOther};
 ghost use Rattle.wwt_words.specs.Words.{command_of};
 
 use crate::images::{Images, read_images};
-use crate::job::Job;
+use crate::job::{Described, Job};
 use crate::name::Name;
 use crate::program::{flat, has_magic, load_images, program};
 use crate::read::read_file;
 use crate::refusal::{FileKind, Refusal};
 use elf_image::Bytes;
+use gen_load::generate;
 use machine_json::{Description, MachineFault, read_machine};
 use std::alloc::Global;
 use wt_outside::Store;
@@ -48,6 +49,7 @@ fn prepare_command<S: Store>(
     command: &Command,
     store: &mut S,
 ) -> Result<Job, Refusal>
+    requires { HasRanges command.now }
     ensures read { Reads (command_case (Some command.now)) (command_names (Some command.now)) (record {
       files = S.files store.old;
       faults = S.faults;
@@ -65,13 +67,21 @@ fn prepare_command<S: Store>(
         Command::Check { machine } => prepare_check(alloc, machine.get(), store),
         Command::Dis { image } => prepare_dis(alloc, image.get(), store),
         Command::Flat => prepare_flat(alloc, store),
+        Command::Run {
+            workers: 1,
+            trace,
+            memory,
+            budget,
+            machine,
+        } => prepare_run(alloc, machine.get(), *budget, *trace, *memory, store),
+        Command::Load { number, workers: 1 } => prepare_load(alloc, *number, store),
         Command::Run { .. } | Command::Load { .. } => Err(Refusal::Usage),
     }
 }
 
-/// The machine of a description, with its images loaded.
+/// A machine to be printed.
 fn prepare_check<S: Store>(alloc: Global, name: &str, store: &mut S) -> Result<Job, Refusal>
-    ensures read { Reads (check_case name.now) (check_names name.now) (record {
+    ensures read { Reads (check_case name.now) (described_names name.now) (record {
       files = S.files store.old;
       faults = S.faults;
       asked = S.asked;
@@ -79,6 +89,96 @@ fn prepare_check<S: Store>(alloc: Global, name: &str, store: &mut S) -> Result<J
       now = store.new;
     }) result }
     ensures ready { IfOk result IsReady }
+    ensures other { IsOther result }
+{
+    match prepare_described(alloc, name, store) {
+        Ok(described) => Ok(Job::Check {
+            machine: described.machine,
+            loaded: described.loaded,
+        }),
+        Err(refusal) => Err(refusal),
+    }
+}
+
+/// A machine to be run, up to its own budget or up to another.
+fn prepare_run<S: Store>(
+    alloc: Global,
+    name: &str,
+    budget: Option<u64>,
+    trace: bool,
+    memory: bool,
+    store: &mut S,
+) -> Result<Job, Refusal>
+    requires { IfSome budget IsBudget }
+    ensures read { Reads (run_case name.now budget trace memory) (described_names name.now) (record {
+      files = S.files store.old;
+      faults = S.faults;
+      asked = S.asked;
+      before = store.old;
+      now = store.new;
+    }) result }
+    ensures ready { IfOk result IsReady }
+    ensures other { IsOther result }
+{
+    match prepare_described(alloc, name, store) {
+        Ok(described) => Ok(Job::Run {
+            machine: with_budget(&described.machine, budget),
+            loaded: described.loaded,
+            trace,
+            memory,
+        }),
+        Err(refusal) => Err(refusal),
+    }
+}
+
+/// A machine with another budget, where one is given.
+fn with_budget(machine: &Machine, budget: Option<u64>) -> Machine
+    requires { IfSome budget IsBudget }
+    ensures { result ≡ with_budget_of budget machine.now }
+{
+    match budget {
+        Some(budget) => machine.with_budget(budget),
+        None => *machine,
+    }
+}
+
+/// A generated machine to be run.
+fn prepare_load<S: Store>(alloc: Global, number: u64, store: &mut S) -> Result<Job, Refusal>
+    requires { number ≤ 9999 }
+    ensures read { Reads (generated_case number) (generated_names number) (record {
+      files = S.files store.old;
+      faults = S.faults;
+      asked = S.asked;
+      before = store.old;
+      now = store.new;
+    }) result }
+    ensures ready { IfOk result IsReady }
+    ensures other { IsOther result }
+{
+    let description = generate(alloc, number)?;
+    match prepare_machine(alloc, &description, store) {
+        Ok(described) => Ok(Job::Load {
+            machine: described.machine,
+            loaded: described.loaded,
+        }),
+        Err(refusal) => Err(refusal),
+    }
+}
+
+/// The machine of a description of a name, with its images loaded.
+fn prepare_described<S: Store>(
+    alloc: Global,
+    name: &str,
+    store: &mut S,
+) -> Result<Described, Refusal>
+    ensures read { Reads (described_case name.now) (described_names name.now) (record {
+      files = S.files store.old;
+      faults = S.faults;
+      asked = S.asked;
+      before = store.old;
+      now = store.new;
+    }) result }
+    ensures ready { IfOk result IsLoaded }
     ensures other { IsOther result }
 {
     match read_description(alloc, name, store) {
@@ -92,7 +192,7 @@ fn prepare_machine<S: Store>(
     alloc: Global,
     description: &Description,
     store: &mut S,
-) -> Result<Job, Refusal>
+) -> Result<Described, Refusal>
     requires { HasImages description.now }
     ensures read { Reads (machine_case description.now) (names_from 0 description.now.images) (record {
       files = S.files store.old;
@@ -101,7 +201,7 @@ fn prepare_machine<S: Store>(
       before = store.old;
       now = store.new;
     }) result }
-    ensures ready { IfOk result IsReady }
+    ensures ready { IfOk result IsLoaded }
     ensures other { IsOther result }
 {
     let machine = &description.machine;
@@ -114,21 +214,21 @@ fn prepare_machine<S: Store>(
         description.images.get(),
         store,
     ) {
-        Ok(images) => loaded_check(machine, images),
+        Ok(images) => loaded_machine(machine, images),
         Err(refusal) => Err(refusal),
     }
 }
 
 /// A machine with its images loaded.
-fn loaded_check(machine: &Machine, images: Images) -> Result<Job, Refusal>
+fn loaded_machine(machine: &Machine, images: Images) -> Result<Described, Refusal>
     requires count { (length images ≡ 1) ⊎ (length images ≡ machine.now.nodes) }
     requires bytes { All HoldsItsBytes images }
-    ensures answer { Answers (loaded_check machine.now images) result }
-    ensures ready { IfOk result IsReady }
+    ensures answer { Answers (loaded_machine machine.now images) result }
+    ensures ready { IfOk result IsLoaded }
     ensures other { IsOther result }
 {
     match load_images(machine, images.into_inner()) {
-        Ok(loaded) => Ok(Job::Check {
+        Ok(loaded) => Ok(Described {
             machine: *machine,
             loaded,
         }),

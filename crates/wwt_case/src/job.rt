@@ -2,6 +2,13 @@ use elf_image::Image;
 use image_loader::Loaded;
 use wt_params::Machine;
 
+/// A machine with its images loaded.
+#[derive(Debug, Drop)]
+pub(crate) struct Described {
+    pub machine: Machine,
+    pub loaded: Loaded,
+}
+
 /// What is to be done for an accepted command.
 #[derive(Debug, Drop)]
 pub enum Job {
@@ -11,4 +18,13 @@ pub enum Job {
     Dis { image: Image },
     /// Run flat bytes on the flat machine.
     Flat { loaded: Loaded },
+    /// Run a machine, and tell its events, registers and memories where they are asked for.
+    Run {
+        machine: Machine,
+        loaded: Loaded,
+        trace: bool,
+        memory: bool,
+    },
+    /// Run a generated machine.
+    Load { machine: Machine, loaded: Loaded },
 }

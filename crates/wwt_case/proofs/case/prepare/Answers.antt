@@ -1,5 +1,9 @@
 use Rattle.wwt_case.proofs.CaseLemmas.{of_words}
+use Rattle.wwt_case.proofs.Ranges.{in_their_ranges}
 use Rattle.wwt_case.proofs.case.prepare.Goals as goal
+
+pub prepare_command-requires : goal.prepare_command-requires
+prepare_command-requires g c = in_their_ranges _ c.in-Ok.command c.in-Ok.ensures
 
 pub returns-in-Ok-clause-read : goal.returns-in-Ok-clause-read
 returns-in-Ok-clause-read g c =

@@ -1,16 +1,16 @@
-use Rattle.wwt_case.specs.Case.{loaded_check}
+use Rattle.wwt_case.specs.Case.{loaded_machine}
 use Rattle.wwt_case.proofs.ReadLemmas.{reads_and, reads_ended}
-use Rattle.wwt_case.proofs.ProgramLemmas.{check_reads_nothing}
+use Rattle.wwt_case.proofs.ProgramLemmas.{machine_reads_nothing}
 use Rattle.wwt_case.proofs.CaseLemmas.{all_images}
 use Rattle.wwt_case.proofs.case.prepare_machine.Goals as goal
 
 pub returns-in-Err-clause-read : goal.returns-in-Err-clause-read
 returns-in-Err-clause-read g c =
-    reads_ended _ _ (loaded_check c.args.description.now.machine) _ c.in-Err.refusal
+    reads_ended _ _ (loaded_machine c.args.description.now.machine) _ c.in-Err.refusal
     (all_images c.args.description.now _ _ _ _ c.new.ensures c.get.ensures c.in-Err.ensures.read)
 
 pub returns-in-Ok-clause-read : goal.returns-in-Ok-clause-read
 returns-in-Ok-clause-read g c =
-    reads_and _ _ (loaded_check c.args.description.now.machine) _ _ _ _ _ c.in-Ok.images c.loaded_check.result
-    (all_images c.args.description.now _ _ _ _ c.new.ensures c.get.ensures c.in-Ok.ensures.read) c.loaded_check.ensures.answer
-    (check_reads_nothing c.args.description.now.machine c.in-Ok.images)
+    reads_and _ _ (loaded_machine c.args.description.now.machine) _ _ _ _ _ c.in-Ok.images c.loaded_machine.result
+    (all_images c.args.description.now _ _ _ _ c.new.ensures c.get.ensures c.in-Ok.ensures.read) c.loaded_machine.ensures.answer
+    (machine_reads_nothing c.args.description.now.machine c.in-Ok.images)
