@@ -1,10 +1,18 @@
-//! The trace of a simulation: what each node did in each event.
+//! The trace of a simulation: what each node did in each event, the records of all nodes as one list, and their
+//! lines.
 #![tactic(auto)]
 
+mod event_line;
+mod merged;
+mod node_log;
 mod record;
+mod text;
 
+pub use event_line::line;
+pub use merged::{merge, merge_order};
+pub use node_log::{Log, NodeLog};
 pub use record::{Deed, Record, What};
-use wt_proto::Fifo;
+pub use text::{add_block, add_cause, add_message};
 
-/// The records of a node's events, in the order in which it handled them.
-pub type NodeLog = Fifo<Record>;
+#[cfg(test)]
+mod tests;

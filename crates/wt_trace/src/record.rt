@@ -1,3 +1,7 @@
+ghost use Rattle.std.specs.Prelude.{◌≡◌, IfOk};
+
+use std::alloc::Global;
+use wt_params::NoMemory;
 use wt_proto::{Cause, Key, Msg, StampedList};
 
 /// What an event was.
@@ -7,6 +11,21 @@ pub enum What {
     Step { pc: u32, word: Option<u32> },
     /// A message.
     Message { msg: Msg },
+}
+
+impl What {
+    /// The same once more.
+    pub fn copy(&self) -> What
+        ensures { result ≡ self.now }
+    {
+        match self {
+            What::Step { pc, word } => What::Step {
+                pc: *pc,
+                word: *word,
+            },
+            What::Message { msg } => What::Message { msg: msg.copy() },
+        }
+    }
 }
 
 /// What an event did to memory, or that it stopped the processor.
@@ -41,4 +60,29 @@ pub struct Record {
     pub trap: Option<u64>,
     /// The messages that the event sent, in order.
     pub sends: StampedList,
+}
+
+impl Record {
+    /// The same once more.
+    pub fn copy(&self, alloc: Global) -> Result<Record, NoMemory>
+        ensures { IfOk result (λ item. item ≡ self.now) }
+    {
+        Ok(Record {
+            key: self.key,
+            what: self.what.copy(),
+            deed: self.deed,
+            trap: self.trap,
+            sends: copy_sends(alloc, &self.sends)?,
+        })
+    }
+}
+
+fn copy_sends(alloc: Global, sends: &StampedList) -> Result<StampedList, NoMemory>
+    ensures { IfOk result (λ list. list ≡ sends.now) }
+{
+    let mut list = StampedList::new(alloc);
+    while let Some(item) = sends.get(list.len()) {
+        list.push(item.copy())?;
+    }
+    Ok(list)
 }

@@ -1,10 +1,7 @@
 -- The report of a run. Own.
 use Rattle.std.specs.Prelude.{ℕ, ◌+◌, List, [], ◌∷◌, ◌++◌, length, map, flat_map, zip, codes, decimal}
 use Rattle.wt_params.specs.declared.parts.MachineParts.{MachineParts}
-use Rattle.wt_params.specs.Machine.{block_address}
 use Rattle.wt_stats.specs.declared.counters.Counters.{Counters}
-use Rattle.wt_proto.specs.declared.mode.Cause.{Cause}
-use Rattle.wt_proto.specs.declared.mode.Cause.TheVariants.{Exit, Illegal, Fetch, Target, Address, Misaligned, Call, Break}
 use Rattle.wt_proto.specs.declared.mode.Mode.{Mode}
 use Rattle.wt_proto.specs.declared.mode.Mode.TheVariants.{Running, Waiting, InBarrier, Stopped}
 use Rattle.node.specs.declared.state.NodeState.{NodeState}
@@ -13,6 +10,7 @@ use Rattle.wt_stats.specs.declared.head.Outcome.{Outcome}
 use Rattle.wt_stats.specs.declared.head.Outcome.TheVariants.{Finished, Budget, EventLimit, Stalled}
 use Rattle.wt_stats.specs.declared.head.Head.{Head}
 use Rattle.wt_stats.specs.Counts.{counter_names, values_of, totals_of}
+use Rattle.wt_trace.specs.Text.{cause_text, block_text}
 use Rattle.wt_text.specs.Text.{line_end, counter_of, hex_of, hex_pairs_of}
 
 abbrev pub outcome_text_of : Outcome → List ℕ
@@ -21,20 +19,10 @@ outcome_text_of Budget = codes "budget"
 outcome_text_of EventLimit = codes "events"
 outcome_text_of Stalled = codes "stalled"
 
-abbrev pub cause_text : Cause → List ℕ
-cause_text (Exit code) = codes "exit " ++ decimal code
-cause_text (Illegal word) = codes "illegal " ++ hex_of word
-cause_text (Fetch address) = codes "fetch " ++ hex_of address
-cause_text (Target address) = codes "target " ++ hex_of address
-cause_text (Address address) = codes "address " ++ hex_of address
-cause_text (Misaligned address) = codes "misaligned " ++ hex_of address
-cause_text (Call number) = codes "call " ++ decimal number
-cause_text Break = codes "break"
-
 -- what a processor does; a processor that waits for a block shows the block's address
 abbrev pub state_text : MachineParts → Mode → List ℕ
 state_text machine Running = codes "running"
-state_text machine (Waiting block exclusive) = codes "waiting " ++ hex_of (block_address machine block)
+state_text machine (Waiting block exclusive) = codes "waiting " ++ block_text machine block
 state_text machine InBarrier = codes "barrier"
 state_text machine (Stopped cause) = cause_text cause
 
