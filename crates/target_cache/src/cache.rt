@@ -1,4 +1,5 @@
 ghost use Rattle.std.specs.Prelude.{◌≡◌, ◌<◌, [], length, replicate, IfOk};
+ghost use Rattle.std.specs.Option.{option_copied};
 ghost use Rattle.block_tags.specs.declared.tag.Tag.TheVariants.{Invalid};
 ghost use Rattle.target_cache.specs.Cached.{IsAccess, IsCached, empty_cache, set_of, line_of, tag_of, read_of, hit_of, write_of, drop_of, replaced_of, install_of};
 
@@ -51,6 +52,15 @@ impl Cache {
         ensures sound { IsCached self.now }
     {
         self.tags.get(block)
+    }
+
+    /// The line of a block. None exactly where there is none.
+    pub fn line(&self, block: u32) -> Option<&Line>
+        requires { block < self.now.machine.blocks }
+        ensures { option_copied result ≡ line_of self.now block }
+    {
+        let set = self.set(block);
+        self.sets[set].line(block)
     }
 
     /// The number of `width` bytes of a block from an offset on, little-endian. None exactly where the node has

@@ -1,4 +1,5 @@
 ghost use Rattle.std.specs.Prelude.{◌≡◌, ◌+◌, ◌<◌, ◌≤◌, [], length, All, IfOk, IfSome, find, position, option_map};
+ghost use Rattle.std.specs.Option.{option_copied};
 ghost use Rattle.priv_mem.specs.Memory.{IsWidth};
 ghost use Rattle.target_cache.specs.Lines.{AreDistinct, holds, number_in, with_written, without, replaced_in, with_installed};
 
@@ -30,6 +31,16 @@ impl LineSet {
     {
         let lines = Vec::with_capacity(alloc, ways)?;
         Ok(LineSet { lines })
+    }
+
+    /// The line of a block. None exactly where there is none.
+    pub fn line(&self, block: u32) -> Option<&Line>
+        ensures { option_copied result ≡ find (holds block) self.now.lines }
+    {
+        match place_of(self.lines.as_slice(), block) {
+            Some(place) => Some(&self.lines[place]),
+            None => None,
+        }
     }
 
     /// The number of `width` bytes of a block from an offset on, where there is a line of it.

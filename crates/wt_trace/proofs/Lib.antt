@@ -1,3 +1,5 @@
 pub mod Walks
 pub mod StableSorts
+pub mod Permuted
 pub mod MergeLaws
+pub mod EventLaws

@@ -9,7 +9,7 @@ mod record;
 mod text;
 
 pub use event_line::line;
-pub use merged::merge;
+pub use merged::{merge, merge_order};
 pub use node_log::{Log, NodeLog};
 pub use record::{Deed, Record, What};
 pub use text::{add_block, add_cause, add_message};

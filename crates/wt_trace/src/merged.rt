@@ -1,5 +1,5 @@
-ghost use Rattle.std.specs.Prelude.{◌≡◌, ◌++◌, [], IfOk, OnOk, map, flat_map};
-ghost use Rattle.wt_trace.specs.Merged.{merge_of};
+ghost use Rattle.std.specs.Prelude.{◌≡◌, ◌++◌, [], IfOk, OnOk, map};
+ghost use Rattle.wt_trace.specs.Merged.{records_of, merge_of, IsMerge};
 
 use crate::node_log::NodeLog;
 use crate::record::Record;
@@ -17,7 +17,7 @@ pub fn merge(alloc: Global, logs: &[NodeLog]) -> Result<NodeLog, NoMemory>
 
 /// The records of the logs, one log after another.
 fn all_records<'a>(alloc: Global, logs: &'a [NodeLog]) -> Result<Vec<&'a Record>, NoMemory>
-    ensures { IfOk result (λ items. map (λ item. item.now) items.items ≡ flat_map (λ log. log) logs.now) }
+    ensures { IfOk result (λ items. map (λ item. item.now) items.items ≡ records_of logs.now) }
 {
     let mut items = Vec::new(alloc);
     for log in logs {
@@ -47,3 +47,9 @@ fn copies(alloc: Global, items: &[&Record]) -> Result<NodeLog, NoMemory>
     }
     Ok(log)
 }
+
+/// The laws of merging: all records are there and no others, and there is no other such list where keys rise. So the
+/// events of many nodes come back in their order.
+pub fn merge_order()
+    ensures { IsMerge }
+{}

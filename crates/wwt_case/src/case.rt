@@ -68,14 +68,25 @@ fn prepare_command<S: Store>(
         Command::Dis { image } => prepare_dis(alloc, image.get(), store),
         Command::Flat => prepare_flat(alloc, store),
         Command::Run {
-            workers: 1,
+            workers,
             trace,
             memory,
             budget,
             machine,
-        } => prepare_run(alloc, machine.get(), *budget, *trace, *memory, store),
-        Command::Load { number, workers: 1 } => prepare_load(alloc, *number, store),
-        Command::Run { .. } | Command::Load { .. } => Err(Refusal::Usage),
+        } => {
+            if *workers == 1 {
+                prepare_run(alloc, machine.get(), *budget, *trace, *memory, store)
+            } else {
+                Err(Refusal::Usage)
+            }
+        }
+        Command::Load { number, workers } => {
+            if *workers == 1 {
+                prepare_load(alloc, *number, store)
+            } else {
+                Err(Refusal::Usage)
+            }
+        }
     }
 }
 

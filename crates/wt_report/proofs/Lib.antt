@@ -1,0 +1,6 @@
+pub mod Appends
+pub mod CountLemmas
+pub mod RegisterLemmas
+pub mod StationLemmas
+pub mod TextLemmas
+pub mod WriteLemmas

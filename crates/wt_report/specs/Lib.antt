@@ -1,0 +1,4 @@
+pub mod Memory
+pub mod Report
+pub mod Stations
+pub mod Writes

@@ -1,0 +1,84 @@
+ghost use Rattle.wt_report.specs.Report.{asked_text, body_text, rest_text, report};
+ghost use Rattle.wt_report.specs.Stations.{AreStationsOf, nodes_of};
+ghost use Rattle.wt_report.specs.Writes.{Writes};
+
+use crate::fault::ReportFault;
+use crate::head::write_head;
+use crate::memory::write_memory;
+use crate::nodes::write_nodes;
+use crate::options::Options;
+use crate::total::write_total;
+use quantum::Station;
+use std::alloc::Global;
+use wt_outside::Sink;
+use wt_params::Machine;
+use wt_stats::Head;
+
+/// Writes the report of a machine: what the simulation came to, the events if asked for, the nodes, the sums over them,
+/// and registers and memories if asked for. A summary has the first and the sums alone.
+pub fn write_report<K: Sink>(
+    alloc: Global,
+    head: &Head,
+    machine: &Machine,
+    stations: &[Station],
+    options: &Options,
+    out: &mut K,
+) -> Result<(), ReportFault>
+    requires { AreStationsOf machine.now stations.now }
+    ensures { Writes (report machine.now head.now (nodes_of stations.now) options.now) result (K.faults out.old) (K.faults out.new) (K.written out.old) (K.written out.new) }
+{
+    write_head(alloc, head, out)?;
+    write_rest(alloc, machine, stations, options, out)
+}
+
+/// Writes what stands below the head.
+fn write_rest<K: Sink>(
+    alloc: Global,
+    machine: &Machine,
+    stations: &[Station],
+    options: &Options,
+    out: &mut K,
+) -> Result<(), ReportFault>
+    requires { AreStationsOf machine.now stations.now }
+    ensures { Writes (rest_text machine.now (nodes_of stations.now) options.now) result (K.faults out.old) (K.faults out.new) (K.written out.old) (K.written out.new) }
+{
+    if options.summary {
+        write_total(alloc, stations, out)
+    } else {
+        write_body(alloc, machine, stations, options, out)
+    }
+}
+
+/// Writes what a report tells beyond a summary.
+fn write_body<K: Sink>(
+    alloc: Global,
+    machine: &Machine,
+    stations: &[Station],
+    options: &Options,
+    out: &mut K,
+) -> Result<(), ReportFault>
+    requires { AreStationsOf machine.now stations.now }
+    ensures { Writes (body_text machine.now (nodes_of stations.now) options.now) result (K.faults out.old) (K.faults out.new) (K.written out.old) (K.written out.new) }
+{
+    write_nodes(alloc, machine, stations, out)?;
+    write_total(alloc, stations, out)?;
+    write_asked(alloc, machine, stations, options.memory, out)
+}
+
+/// Writes registers and memories, where they are asked for.
+fn write_asked<K: Sink>(
+    alloc: Global,
+    machine: &Machine,
+    stations: &[Station],
+    asked: bool,
+    out: &mut K,
+) -> Result<(), ReportFault>
+    requires { AreStationsOf machine.now stations.now }
+    ensures { Writes (asked_text machine.now (nodes_of stations.now) asked) result (K.faults out.old) (K.faults out.new) (K.written out.old) (K.written out.new) }
+{
+    if asked {
+        write_memory(alloc, machine, stations, out)
+    } else {
+        Ok(())
+    }
+}

@@ -1,0 +1,128 @@
+ghost use Rattle.std.specs.Prelude.{◌≡◌, ◌<◌, ◌≤◌, length, IfSome};
+ghost use Rattle.std.specs.Option.{option_copied};
+ghost use Rattle.wt_params.specs.Machine.{home_of};
+ghost use Rattle.dir1sw.specs.Homes.{block_of};
+ghost use Rattle.quantum.specs.Stations.{IsUnbroken, machine_of};
+ghost use Rattle.wt_report.specs.Memory.{block_text, first_copy, home_memory, shared_bytes, shared_text, writable_copy};
+ghost use Rattle.wt_report.specs.Stations.{AreStationsOf, IsStationOf, node_of, nodes_of};
+ghost use Rattle.wt_report.specs.Writes.{Writes};
+
+use crate::fault::ReportFault;
+use crate::memory::write_groups;
+use block_tags::Tag;
+use node::Node;
+use quantum::Station;
+use std::alloc::Global;
+use wt_outside::Sink;
+use wt_params::Machine;
+
+/// Writes shared memory.
+pub(crate) fn write_shared<K: Sink>(
+    alloc: Global,
+    machine: &Machine,
+    stations: &[Station],
+    out: &mut K,
+) -> Result<(), ReportFault>
+    requires { AreStationsOf machine.now stations.now }
+    ensures { Writes (shared_text machine.now (nodes_of stations.now)) result (K.faults out.old) (K.faults out.new) (K.written out.old) (K.written out.new) }
+{
+    for block in 0..machine.blocks() as u32 {
+        write_block(alloc, machine, stations, block, out)?;
+    }
+    Ok(())
+}
+
+fn write_block<K: Sink>(
+    alloc: Global,
+    machine: &Machine,
+    stations: &[Station],
+    block: u32,
+    out: &mut K,
+) -> Result<(), ReportFault>
+    requires stations { AreStationsOf machine.now stations.now }
+    requires exists { block < machine.now.blocks }
+    ensures { Writes (block_text machine.now (nodes_of stations.now) block) result (K.faults out.old) (K.faults out.new) (K.written out.old) (K.written out.new) }
+{
+    // So that no address wraps.
+    prove!(machine.blocks() <= 65_536);
+    prove!(machine.block_bytes() <= 128);
+    let bytes = shared_bytes(machine, stations, block);
+    write_groups(alloc, b"shared", machine.block_address(block), bytes, out)
+}
+
+/// The bytes of a block.
+fn shared_bytes<'a>(machine: &Machine, stations: &'a [Station], block: u32) -> &'a [u8]
+    requires stations { AreStationsOf machine.now stations.now }
+    requires exists { block < machine.now.blocks }
+    ensures bytes { result.now ≡ shared_bytes machine.now (nodes_of stations.now) block }
+    ensures few { length result.now ≤ 128 }
+{
+    match first_copy(machine, stations, block) {
+        Some(bytes) => bytes,
+        None => home_memory(machine, stations, block),
+    }
+}
+
+/// The writable copy of a block at the least node that holds one.
+fn first_copy<'a>(machine: &Machine, stations: &'a [Station], block: u32) -> Option<&'a [u8]>
+    requires stations { AreStationsOf machine.now stations.now }
+    requires exists { block < machine.now.blocks }
+    ensures bytes { option_copied result ≡ first_copy block (nodes_of stations.now) }
+    ensures few { IfSome result (λ bytes. length bytes.now ≤ 128) }
+{
+    for station in stations {
+        if let Some(bytes) = station_copy(machine, station, block) {
+            return Some(bytes);
+        }
+    }
+    None
+}
+
+/// What the home of a block keeps in memory.
+fn home_memory<'a>(machine: &Machine, stations: &'a [Station], block: u32) -> &'a [u8]
+    requires stations { AreStationsOf machine.now stations.now }
+    requires exists { block < machine.now.blocks }
+    ensures bytes { result.now ≡ home_memory machine.now (nodes_of stations.now) block }
+    ensures few { length result.now ≤ 128 }
+{
+    let home = machine.home(block);
+    station_memory(machine, home, &stations[home as usize], block)
+}
+
+/// What the node of a station keeps in memory of a block whose home it is.
+fn station_memory<'a>(machine: &Machine, place: u32, station: &'a Station, block: u32) -> &'a [u8]
+    requires station { IsStationOf machine.now place station.now }
+    requires exists { block < machine.now.blocks }
+    requires home { home_of machine.now block ≡ place }
+    ensures bytes { result.now ≡ (block_of (node_of station.now).directory block).memory }
+    ensures few { length result.now ≤ 128 }
+{
+    station.node().directory().memory(block)
+}
+
+/// The writable copy of a block that the node of a station holds.
+fn station_copy<'a>(machine: &Machine, station: &'a Station, block: u32) -> Option<&'a [u8]>
+    requires unbroken { IsUnbroken station.now }
+    requires machine { machine_of station.now ≡ machine.now }
+    requires exists { block < machine.now.blocks }
+    ensures bytes { option_copied result ≡ writable_copy block (node_of station.now) }
+    ensures few { IfSome result (λ bytes. length bytes.now ≤ 128) }
+{
+    writable_copy(station.node(), block)
+}
+
+/// The bytes of the writable copy of a block that a node holds.
+fn writable_copy(node: &Node, block: u32) -> Option<&[u8]>
+    requires { block < node.now.state.cache.machine.blocks }
+    ensures bytes { option_copied result ≡ writable_copy block node.now.state }
+    ensures few { IfSome result (λ bytes. length bytes.now ≤ 128) }
+{
+    let cache = node.cache();
+    if cache.tag(block) != Tag::Writable {
+        return None;
+    }
+    match cache.line(block) {
+        Some(line) => Some(line.bytes.bytes()),
+        None => None,
+    }
+}

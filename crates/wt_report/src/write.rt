@@ -1,0 +1,15 @@
+ghost use Rattle.wt_report.specs.Writes.{Writes};
+
+use crate::fault::ReportFault;
+use wt_outside::Sink;
+use wt_text::Line;
+
+/// Writes a line by one call of the sink.
+pub(crate) fn write_line<K: Sink>(line: &Line, out: &mut K) -> Result<(), ReportFault>
+    ensures { Writes line.now result (K.faults out.old) (K.faults out.new) (K.written out.old) (K.written out.new) }
+{
+    match out.write(line.as_bytes()) {
+        Ok(()) => Ok(()),
+        Err(_) => Err(ReportFault::Failed),
+    }
+}
