@@ -3,4 +3,5 @@ pub mod CountLemmas
 pub mod RegisterLemmas
 pub mod StationLemmas
 pub mod TextLemmas
+pub mod TraceLemmas
 pub mod WriteLemmas

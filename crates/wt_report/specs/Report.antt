@@ -2,10 +2,7 @@
 use Rattle.std.specs.Prelude.{ℕ, Bool, if◌then◌else◌, List, [], ◌∷◌, ◌++◌, length, map, flat_map, zip, codes, decimal}
 use Rattle.std.specs.List.{enumerate_from}
 use Rattle.wt_params.specs.declared.parts.MachineParts.{MachineParts}
-use Rattle.wt_params.specs.Machine.{block_address}
 use Rattle.wt_stats.specs.declared.counters.Counters.{Counters}
-use Rattle.wt_proto.specs.declared.mode.Cause.{Cause}
-use Rattle.wt_proto.specs.declared.mode.Cause.TheVariants.{Exit, Illegal, Fetch, Target, Address, Misaligned, Call, Break}
 use Rattle.wt_proto.specs.declared.mode.Mode.{Mode}
 use Rattle.wt_proto.specs.declared.mode.Mode.TheVariants.{Running, Waiting, InBarrier, Stopped}
 use Rattle.node.specs.declared.state.NodeState.{NodeState}
@@ -14,6 +11,10 @@ use Rattle.wt_stats.specs.declared.head.Outcome.{Outcome}
 use Rattle.wt_stats.specs.declared.head.Outcome.TheVariants.{Finished, Budget, EventLimit, Stalled}
 use Rattle.wt_stats.specs.declared.head.Head.{Head}
 use Rattle.wt_stats.specs.Counts.{counter_names, values_of, totals_of}
+use Rattle.wt_trace.specs.declared.record.Record.{Record}
+use Rattle.wt_trace.specs.Text.{block_text, cause_text}
+use Rattle.wt_trace.specs.EventLine.{line_of}
+use Rattle.wt_trace.specs.Merged.{merge_of}
 use Rattle.wt_text.specs.Text.{line_end, counter_of, hex_of, hex_pairs_of}
 use Rattle.wt_report.specs.declared.options.Options.{Options}
 use Rattle.wt_report.specs.Memory.{memory_text}
@@ -40,20 +41,10 @@ head_text head =
 
 -- ---- the nodes
 
-abbrev pub cause_text : Cause → List ℕ
-cause_text (Exit code) = codes "exit " ++ decimal code
-cause_text (Illegal word) = codes "illegal " ++ hex_of word
-cause_text (Fetch address) = codes "fetch " ++ hex_of address
-cause_text (Target address) = codes "target " ++ hex_of address
-cause_text (Address address) = codes "address " ++ hex_of address
-cause_text (Misaligned address) = codes "misaligned " ++ hex_of address
-cause_text (Call number) = codes "call " ++ decimal number
-cause_text Break = codes "break"
-
 -- what a processor does; a processor that waits for a block shows the block's address
 abbrev pub state_text : MachineParts → Mode → List ℕ
 state_text machine Running = codes "running"
-state_text machine (Waiting block exclusive) = codes "waiting " ++ hex_of (block_address machine block)
+state_text machine (Waiting block exclusive) = codes "waiting " ++ block_text machine block
 state_text machine InBarrier = codes "barrier"
 state_text machine (Stopped cause) = cause_text cause
 
@@ -96,6 +87,13 @@ nodes_text machine nodes = flat_map (node_text machine) (enumerate_from 0 nodes)
 
 -- ---- all nodes together
 
+abbrev pub logs_of : List NodeState → List (List Record)
+logs_of nodes = map (λ (node : NodeState). node.log) nodes
+
+-- the lines of all events, in rising order of keys
+abbrev pub trace_text : MachineParts → List NodeState → List ℕ
+trace_text machine nodes = flat_map (line_of machine) (merge_of (logs_of nodes))
+
 abbrev pub counters_of : List NodeState → List Counters
 counters_of nodes = map (λ (node : NodeState). node.counters) nodes
 
@@ -104,13 +102,14 @@ total_line_of nodes = codes "total" ++ totals_text (counters_of nodes) ++ line_e
 
 -- ---- the whole
 
-abbrev pub asked_text : MachineParts → List NodeState → Bool → List ℕ
-asked_text machine nodes asked = if asked then memory_text machine nodes else []
+abbrev pub if_asked : Bool → List ℕ → List ℕ
+if_asked asked text = if asked then text else []
 
 -- what a report that is no summary tells below its head
 abbrev pub body_text : MachineParts → List NodeState → Options → List ℕ
 body_text machine nodes options =
-    nodes_text machine nodes ++ total_line_of nodes ++ asked_text machine nodes options.memory
+    if_asked options.trace (trace_text machine nodes) ++ nodes_text machine nodes ++ total_line_of nodes
+    ++ if_asked options.memory (memory_text machine nodes)
 
 abbrev pub rest_text : MachineParts → List NodeState → Options → List ℕ
 rest_text machine nodes options = if options.summary then total_line_of nodes else body_text machine nodes options

@@ -12,6 +12,7 @@ mod options;
 mod report;
 mod shared;
 mod total;
+mod trace;
 mod write;
 
 pub use fault::ReportFault;

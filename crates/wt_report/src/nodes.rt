@@ -2,7 +2,7 @@ ghost use Rattle.std.specs.Prelude.{◌≡◌, ◌++◌, map, IfOk, OnOk};
 ghost use Rattle.node.specs.Laws.{IsWhole};
 ghost use Rattle.node.specs.Sound.{WaitsForABlock};
 ghost use Rattle.node.specs.State.{step_time};
-ghost use Rattle.wt_report.specs.Report.{cause_text, state_text, processor_text, output_text, node_line_of, count_line_of, out_line_of, node_text, nodes_text};
+ghost use Rattle.wt_report.specs.Report.{state_text, processor_text, output_text, node_line_of, count_line_of, out_line_of, node_text, nodes_text};
 ghost use Rattle.wt_report.specs.Stations.{AreStationsOf, IsStationOf, nodes_of, node_of};
 ghost use Rattle.wt_report.specs.Writes.{Writes};
 
@@ -15,8 +15,9 @@ use std::alloc::Global;
 use std::slice;
 use wt_outside::Sink;
 use wt_params::{Machine, NoMemory};
-use wt_proto::{Cause, Mode};
+use wt_proto::Mode;
 use wt_text::Line;
+use wt_trace::{add_block, add_cause};
 
 /// Writes the lines of each node.
 pub(crate) fn write_nodes<K: Sink>(
@@ -119,24 +120,12 @@ fn state(line: &mut Line, machine: &Machine, mode: &Mode) -> Result<(), NoMemory
         Mode::Waiting {
             block,
             exclusive: _,
-        } => line.entry_hex(b"waiting ", machine.block_address(block)),
+        } => {
+            line.text(b"waiting ")?;
+            add_block(line, machine, block)
+        }
         Mode::InBarrier => line.text(b"barrier"),
-        Mode::Stopped { cause } => stop(line, cause),
-    }
-}
-
-fn stop(line: &mut Line, cause: Cause) -> Result<(), NoMemory>
-    ensures { OnOk result (line.new ≡ line.old ++ cause_text cause) }
-{
-    match cause {
-        Cause::Exit { code } => line.entry(b"exit ", code as u128),
-        Cause::Illegal { word } => line.entry_hex(b"illegal ", word),
-        Cause::Fetch { address } => line.entry_hex(b"fetch ", address),
-        Cause::Target { address } => line.entry_hex(b"target ", address),
-        Cause::Address { address } => line.entry_hex(b"address ", address),
-        Cause::Misaligned { address } => line.entry_hex(b"misaligned ", address),
-        Cause::Call { number } => line.entry(b"call ", number as u128),
-        Cause::Break => line.text(b"break"),
+        Mode::Stopped { cause } => add_cause(line, cause),
     }
 }
 

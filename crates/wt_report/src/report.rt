@@ -1,5 +1,6 @@
-ghost use Rattle.wt_report.specs.Report.{asked_text, body_text, rest_text, report};
-ghost use Rattle.wt_report.specs.Stations.{AreStationsOf, nodes_of};
+ghost use Rattle.wt_report.specs.Memory.{memory_text};
+ghost use Rattle.wt_report.specs.Report.{body_text, if_asked, report, rest_text, trace_text};
+ghost use Rattle.wt_report.specs.Stations.{AreStationsOf, MayShowEvents, nodes_of};
 ghost use Rattle.wt_report.specs.Writes.{Writes};
 
 use crate::fault::ReportFault;
@@ -8,6 +9,7 @@ use crate::memory::write_memory;
 use crate::nodes::write_nodes;
 use crate::options::Options;
 use crate::total::write_total;
+use crate::trace::write_trace;
 use quantum::Station;
 use std::alloc::Global;
 use wt_outside::Sink;
@@ -24,7 +26,8 @@ pub fn write_report<K: Sink>(
     options: &Options,
     out: &mut K,
 ) -> Result<(), ReportFault>
-    requires { AreStationsOf machine.now stations.now }
+    requires stations { AreStationsOf machine.now stations.now }
+    requires events { MayShowEvents machine.now stations.now options.now.trace }
     ensures { Writes (report machine.now head.now (nodes_of stations.now) options.now) result (K.faults out.old) (K.faults out.new) (K.written out.old) (K.written out.new) }
 {
     write_head(alloc, head, out)?;
@@ -39,7 +42,8 @@ fn write_rest<K: Sink>(
     options: &Options,
     out: &mut K,
 ) -> Result<(), ReportFault>
-    requires { AreStationsOf machine.now stations.now }
+    requires stations { AreStationsOf machine.now stations.now }
+    requires events { MayShowEvents machine.now stations.now options.now.trace }
     ensures { Writes (rest_text machine.now (nodes_of stations.now) options.now) result (K.faults out.old) (K.faults out.new) (K.written out.old) (K.written out.new) }
 {
     if options.summary {
@@ -57,16 +61,37 @@ fn write_body<K: Sink>(
     options: &Options,
     out: &mut K,
 ) -> Result<(), ReportFault>
-    requires { AreStationsOf machine.now stations.now }
+    requires stations { AreStationsOf machine.now stations.now }
+    requires events { MayShowEvents machine.now stations.now options.now.trace }
     ensures { Writes (body_text machine.now (nodes_of stations.now) options.now) result (K.faults out.old) (K.faults out.new) (K.written out.old) (K.written out.new) }
 {
+    write_trace_if(alloc, machine, stations, options.trace, out)?;
     write_nodes(alloc, machine, stations, out)?;
     write_total(alloc, stations, out)?;
-    write_asked(alloc, machine, stations, options.memory, out)
+    write_memory_if(alloc, machine, stations, options.memory, out)
+}
+
+/// Writes the lines of all events, where they are asked for.
+fn write_trace_if<K: Sink>(
+    alloc: Global,
+    machine: &Machine,
+    stations: &[Station],
+    asked: bool,
+    out: &mut K,
+) -> Result<(), ReportFault>
+    requires stations { AreStationsOf machine.now stations.now }
+    requires events { MayShowEvents machine.now stations.now asked }
+    ensures { Writes (if_asked asked (trace_text machine.now (nodes_of stations.now))) result (K.faults out.old) (K.faults out.new) (K.written out.old) (K.written out.new) }
+{
+    if asked {
+        write_trace(alloc, machine, stations, out)
+    } else {
+        Ok(())
+    }
 }
 
 /// Writes registers and memories, where they are asked for.
-fn write_asked<K: Sink>(
+fn write_memory_if<K: Sink>(
     alloc: Global,
     machine: &Machine,
     stations: &[Station],
@@ -74,7 +99,7 @@ fn write_asked<K: Sink>(
     out: &mut K,
 ) -> Result<(), ReportFault>
     requires { AreStationsOf machine.now stations.now }
-    ensures { Writes (asked_text machine.now (nodes_of stations.now) asked) result (K.faults out.old) (K.faults out.new) (K.written out.old) (K.written out.new) }
+    ensures { Writes (if_asked asked (memory_text machine.now (nodes_of stations.now))) result (K.faults out.old) (K.faults out.new) (K.written out.old) (K.written out.new) }
 {
     if asked {
         write_memory(alloc, machine, stations, out)

@@ -1,0 +1,80 @@
+ghost use Rattle.std.specs.Prelude.{◌≡◌, All, true, IfOk, flat_map};
+ghost use Rattle.wt_trace.specs.EventLine.{RecordFits, line_of};
+ghost use Rattle.wt_trace.specs.Merged.{merge_of};
+ghost use Rattle.wt_report.specs.Report.{logs_of, trace_text};
+ghost use Rattle.wt_report.specs.Stations.{MayShowEvents, nodes_of};
+ghost use Rattle.wt_report.specs.Writes.{Writes};
+
+use crate::fault::ReportFault;
+use crate::write::write_line;
+use quantum::Station;
+use std::alloc::Global;
+use wt_outside::Sink;
+use wt_params::{Machine, NoMemory};
+use wt_trace::{Log, NodeLog, Record, line, merge};
+
+/// Writes the lines of all events, in rising order of their keys.
+pub(crate) fn write_trace<K: Sink>(
+    alloc: Global,
+    machine: &Machine,
+    stations: &[Station],
+    out: &mut K,
+) -> Result<(), ReportFault>
+    requires { MayShowEvents machine.now stations.now true }
+    ensures { Writes (trace_text machine.now (nodes_of stations.now)) result (K.faults out.old) (K.faults out.new) (K.written out.old) (K.written out.new) }
+{
+    let events = merged(alloc, stations)?;
+    write_events(alloc, machine, &events, out)
+}
+
+/// The records of all nodes. The logs are copied for it, and the copies are given back.
+fn merged(alloc: Global, stations: &[Station]) -> Result<NodeLog, NoMemory>
+    ensures { IfOk result (λ events. events ≡ merge_of (logs_of (nodes_of stations.now))) }
+{
+    let logs = logs(alloc, stations)?;
+    merge(alloc, &logs)
+}
+
+/// Copies of the logs of all nodes.
+fn logs(alloc: Global, stations: &[Station]) -> Result<Vec<NodeLog>, NoMemory>
+    ensures { IfOk result (λ logs. logs.items ≡ logs_of (nodes_of stations.now)) }
+{
+    let mut logs = Vec::new(alloc);
+    for station in stations {
+        logs.push(station.node().log().copy(alloc)?)?;
+    }
+    Ok(logs)
+}
+
+/// Writes the lines of these events.
+fn write_events<K: Sink>(
+    alloc: Global,
+    machine: &Machine,
+    events: &NodeLog,
+    out: &mut K,
+) -> Result<(), ReportFault>
+    requires { All (RecordFits machine.now) events.now }
+    ensures { Writes (flat_map (line_of machine.now) events.now) result (K.faults out.old) (K.faults out.new) (K.written out.old) (K.written out.new) }
+{
+    let count = events.len();
+    let mut i = 0;
+    while let Some(item) = events.get(i) {
+        prove!(i < count);
+        write_event(alloc, machine, item, out)?;
+        i += 1;
+    }
+    Ok(())
+}
+
+fn write_event<K: Sink>(
+    alloc: Global,
+    machine: &Machine,
+    item: &Record,
+    out: &mut K,
+) -> Result<(), ReportFault>
+    requires { RecordFits machine.now item.now }
+    ensures { Writes (line_of machine.now item.now) result (K.faults out.old) (K.faults out.new) (K.written out.old) (K.written out.new) }
+{
+    let line = line(alloc, item, machine)?;
+    write_line(&line, out)
+}
