@@ -2,4 +2,3 @@ pub mod Status
 pub mod Refused
 pub mod Jobs
 pub mod Answer
-pub mod Examples
