@@ -82,6 +82,7 @@ impl Engine {
         ensures start { IfOk result (λ engine. world_of engine ≡ start_of machine loaded.now traced) }
         ensures machine { IfOk result (λ engine. engine.machine ≡ machine) }
         ensures unbroken { IfOk result IsUnbroken }
+        ensures running { IfOk result IsRunning }
     {
         let mut stations = Vec::new(alloc);
         for number in 0..machine.parts().nodes as u32 {

@@ -9,3 +9,6 @@ mod head;
 mod stations;
 
 pub use self::engine::{Engine, Round};
+
+#[cfg(test)]
+mod tests;

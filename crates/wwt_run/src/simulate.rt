@@ -1,5 +1,6 @@
-ghost use Rattle.std.specs.Prelude.{◌≡◌, IfOk};
+ghost use Rattle.std.specs.Prelude.{◌≡◌, All, IfOk};
 ghost use Rattle.image_loader.specs.Images.{IsFor};
+ghost use Rattle.wt_report.specs.Stations.{AreStationsOf, MayShowEvents};
 ghost use Rattle.engine.specs.Engine.{IsUnbroken, world_of};
 ghost use Rattle.wwt_run.specs.Jobs.{final_of};
 
@@ -19,8 +20,13 @@ pub fn simulate(
     ensures world { IfOk result (λ engine. world_of engine ≡ final_of machine.now loaded.now traced) }
     ensures machine { IfOk result (λ engine. engine.machine ≡ machine.now) }
     ensures unbroken { IfOk result IsUnbroken }
+    ensures events { IfOk result (λ engine. MayShowEvents machine.now engine.stations traced) }
 {
     let mut engine = Engine::new(alloc, *machine, loaded, traced)?;
-    while let Round::More = engine.round_plain()? {}
-    Ok(engine)
+    loop {
+        match engine.round_plain()? {
+            Round::Ended => return Ok(engine),
+            Round::More => {}
+        }
+    }
 }

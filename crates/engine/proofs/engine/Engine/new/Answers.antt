@@ -8,6 +8,11 @@ invariant_of-result c =
     let all = subst (λ (n : ℕ). AreAtStart c.args.machine c.args.loaded.now c.args.traced n c.loop-number.stations.items) (let p = ap (λ (m : MachineParts). m.nodes) c.parts.ensures.value in let e : c.loop-number.number ≡ c.args.machine.nodes = omega arith in e) c.loop-number.invariant in
     λ whole. running_at_start c.args.machine c.args.loaded.now c.args.traced c.parts.ensures.machine c.loop-number.stations.items all
 
+pub returns-clause-running : goal.returns-clause-running
+returns-clause-running c =
+    let all = subst (λ (n : ℕ). AreAtStart c.args.machine c.args.loaded.now c.args.traced n c.loop-number.stations.items) (let p = ap (λ (m : MachineParts). m.nodes) c.parts.ensures.value in let e : c.loop-number.number ≡ c.args.machine.nodes = omega arith in e) c.loop-number.invariant in
+    running_at_start c.args.machine c.args.loaded.now c.args.traced c.parts.ensures.machine c.loop-number.stations.items all
+
 pub returns-clause-start : goal.returns-clause-start
 returns-clause-start c =
     let all = subst (λ (n : ℕ). AreAtStart c.args.machine c.args.loaded.now c.args.traced n c.loop-number.stations.items) (let p = ap (λ (m : MachineParts). m.nodes) c.parts.ensures.value in let e : c.loop-number.number ≡ c.args.machine.nodes = omega arith in e) c.loop-number.invariant in
