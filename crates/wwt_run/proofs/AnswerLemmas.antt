@@ -16,7 +16,7 @@ use Rattle.wwt_run.specs.Status.{status_of_refusal, status_after_of}
 use Rattle.wt_params.specs.declared.parts.MachineParts.{MachineParts}
 use Rattle.wt_params.specs.Machine.{flat_machine}
 use Rattle.image_loader.specs.Images.{LoadedImages}
-use Rattle.wwt_run.specs.Outcome.{outcome_of}
+use Rattle.quantum.specs.Outcome.{outcome_of}
 use Rattle.wwt_run.specs.Jobs.{final_of, status_of_job, status_of, output_of, status_of_run}
 use Rattle.wwt_run.specs.Answer.{Ends, IsDone, IsEarly}
 
