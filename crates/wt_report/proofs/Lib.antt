@@ -3,5 +3,6 @@ pub mod CountLemmas
 pub mod RegisterLemmas
 pub mod StationLemmas
 pub mod TextLemmas
+pub mod TraceLaws
 pub mod TraceLemmas
 pub mod WriteLemmas

@@ -1,5 +1,5 @@
 -- What is known of all records of logs is known of those of the merge.
-use Rattle.std.proofs.Common.{◌≡◌, zero, suc, ◌<◌, Bool, true, false, cond, List, [], ◌∷◌, ◌++◌, length, map, refl, subst, arith}
+use Rattle.std.proofs.Common.{zero, suc, Bool, true, false, cond, List, [], ◌∷◌, ◌++◌, map, refl, subst, arith}
 use Rattle.std.specs.Prelude.{All}
 use Rattle.std.specs.List.{AllByRecursion}
 use Rattle.std.specs.Ordering.{is_lt}
@@ -14,6 +14,11 @@ use Rattle.wt_report.specs.Report.{logs_of}
 use Rattle.wt_report.specs.Stations.{MayShowEvents, node_of, nodes_of}
 use Rattle.wt_report.proofs.StationLemmas.{mapped_twice}
 use Rattle.wt_trace.proofs.StableSorts.{all_of_each}
+
+pub each_of_all : {X : Type 0} (P : X → Type 0) (xs : List X) → AllByRecursion P xs → All P xs
+each_of_all P [] all k d below = absurd (omega arith)
+each_of_all P (x ∷ xs) all zero d below = all.0
+each_of_all P (x ∷ xs) all (suc k) d below = each_of_all P xs all.1 k d (omega arith)
 
 module _ (P : Record → Type 0) where
   placed_too : (item : Record) (items : List Record) → P item → AllByRecursion P items → AllByRecursion P (with_record item items)
@@ -37,14 +42,9 @@ module _ (P : Record → Type 0) where
   in_all_logs (log ∷ logs) all =
       both log (records_of logs) (all_of_each P log (all zero log (omega arith))) (in_all_logs logs (λ k d below. all (suc k) d (omega arith)))
 
-  each_of_all : (xs : List Record) → AllByRecursion P xs → All P xs
-  each_of_all [] all k d below = absurd (omega arith)
-  each_of_all (x ∷ xs) all zero d below = all.0
-  each_of_all (x ∷ xs) all (suc k) d below = each_of_all xs all.1 k d (omega arith)
-
   pub merged_too : (logs : List (List Record)) → All (All P) logs → All P (merge_of logs)
   unfolding merge_of
-  merged_too logs all = each_of_all (merge_of logs) (sorted_too (records_of logs) (in_all_logs logs all))
+  merged_too logs all = each_of_all P (merge_of logs) (sorted_too (records_of logs) (in_all_logs logs all))
 
 mapped_too : {X : Type 0} (P : List Record → Type 0) (f : X → List Record) (xs : List X) → All (λ x. P (f x)) xs → All P (map f xs)
 mapped_too P f [] all k d below = absurd (omega arith)
