@@ -3,7 +3,7 @@ use Rattle.std.proofs.Common.{◌≡◌, ◌≢◌, ℕ, List, [], Option, Some,
 use Rattle.wt_outside.specs.Files.{Files}
 use Rattle.wt_outside.specs.Growth.{Grows}
 use Rattle.wwt_case.specs.declared.job.Job.{Job}
-use Rattle.wwt_case.specs.declared.job.Job.TheVariants.{Check, Dis, Flat}
+use Rattle.wwt_case.specs.declared.job.Job.TheVariants.{Check, Dis, Flat, Run, Load}
 use Rattle.wwt_case.specs.declared.refusal.Refusal.{Refusal}
 use Rattle.wwt_case.specs.declared.refusal.Refusal.TheVariants as refusals
 use Rattle.wwt_case.specs.Reading.{Store, Asks, IsSound, IsThrough}
@@ -17,7 +17,8 @@ use Rattle.wt_params.specs.declared.parts.MachineParts.{MachineParts}
 use Rattle.wt_params.specs.Machine.{flat_machine}
 use Rattle.image_loader.specs.Images.{LoadedImages}
 use Rattle.quantum.specs.Outcome.{outcome_of}
-use Rattle.wwt_run.specs.Jobs.{final_of, status_of_job, status_of, output_of, status_of_run}
+use Rattle.wt_report.specs.declared.options.Options.{Options}
+use Rattle.wwt_run.specs.Jobs.{final_of, asked_of, summary_of, status_of_job, status_of, output_of, status_of_run}
 use Rattle.wwt_run.specs.Answer.{Ends, IsDone, IsEarly}
 
 either_done : (b : Bool) → IsDone (cond b Done NodeFault)
@@ -30,14 +31,16 @@ run_is_done outcomes.Budget nodes = tt
 run_is_done outcomes.EventLimit nodes = tt
 run_is_done outcomes.Stalled nodes = tt
 
-ran_is_done : (machine : MachineParts) (loaded : LoadedImages) → IsDone (status_of_run machine loaded)
+ran_is_done : (machine : MachineParts) (loaded : LoadedImages) (options : Options) → IsDone (status_of_run machine loaded options)
 unfolding status_of_run
-ran_is_done machine loaded = run_is_done (outcome_of machine (final_of machine loaded)) (final_of machine loaded).nodes
+ran_is_done machine loaded options = run_is_done (outcome_of machine (final_of machine loaded options.trace)) (final_of machine loaded options.trace).nodes
 
 job_is_done : (job : Job) → IsDone (status_of_job job)
 job_is_done (Check machine loaded) = tt
 job_is_done (Dis image) = tt
-job_is_done (Flat loaded) = ran_is_done flat_machine loaded
+job_is_done (Flat loaded) = ran_is_done flat_machine loaded (asked_of false false)
+job_is_done (Run machine loaded trace memory) = ran_is_done machine loaded (asked_of trace memory)
+job_is_done (Load machine loaded) = ran_is_done machine loaded summary_of
 
 pub end_is_done : (job : Job) (result : Result Status Refusal) → IfOk result (λ status. status ≡ status_of_job job) → IfOk result IsDone
 end_is_done job (Ok status) is = subst IsDone (sym is) (job_is_done job)

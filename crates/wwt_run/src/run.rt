@@ -1,4 +1,5 @@
 ghost use Rattle.std.specs.Prelude.{◌≡◌, ◌≢◌, ◌≤◌, ◌⊎◌, Err, IfOk, IfErr, OnOk, IsErrOf};
+ghost use Rattle.std.specs.List.{list_all};
 ghost use Rattle.image_loader.specs.Images.{IsFor};
 ghost use Rattle.wt_outside.specs.Faults.{Rose};
 ghost use Rattle.wt_outside.specs.Growth.{Grows, GrowsByPrefix};
@@ -52,7 +53,7 @@ fn status_after(outcome: Outcome, stations: &[Station]) -> Status
 {
     match outcome {
         Outcome::Finished => {
-            if stations.iter().all(has_exited_well) {
+            if all_exit_well(stations) {
                 Status::Done
             } else {
                 Status::NodeFault
@@ -62,6 +63,13 @@ fn status_after(outcome: Outcome, stations: &[Station]) -> Status
         Outcome::EventLimit => Status::EventLimit,
         Outcome::Stalled => Status::Stalled,
     }
+}
+
+/// Whether the programs of all nodes ended themselves by the code 0.
+fn all_exit_well(stations: &[Station]) -> bool
+    ensures { result ≡ list_all (λ station. exits_well station.node.state) stations.now }
+{
+    stations.iter().all(|station| has_exited_well(station))
 }
 
 /// Whether the program of a node ended itself by the code 0.

@@ -1,0 +1,140 @@
+-- A run of the engine from the start, and what it comes to.
+use Rattle.std.proofs.Common.{◌≡◌, ℕ, suc, zero, ◌+◌, ◌*◌, ◌<◌, Bool, Option, Result, Ok, Err, List, [], ◌∷◌, length, map, inl, inr, refl, ap, sym, ◌∙◌, subst, arith}
+use Rattle.std.specs.Prelude.{All, slice_index_or}
+use Rattle.wt_params.specs.declared.parts.MachineParts.{MachineParts}
+use Rattle.wt_params.specs.Machine.{IsMachine}
+use Rattle.image_loader.specs.Images.{LoadedImages}
+use Rattle.discrete_events.specs.Laws.{IsIn, IsNumbered, IsWorld}
+use Rattle.discrete_events.specs.Serial.{serial, final}
+use Rattle.node.specs.declared.state.NodeState.{NodeState}
+use Rattle.node.specs.Laws.{Fits}
+use Rattle.node.specs.React.{wind_tunnel}
+use Rattle.node.specs.Sound.{IsNode}
+use Rattle.node.specs.Start.{start_node}
+use Rattle.wt_stats.specs.declared.head.Head.{Head}
+use Rattle.wt_trace.specs.EventLine.{RecordFits}
+use Rattle.quantum.specs.Outcome.{head_of, outcome_of}
+use Rattle.quantum.specs.Stations.{StationModel, machine_of}
+use Rattle.quantum.specs.World.{World, start_of}
+use Rattle.engine.specs.Engine.{EngineModel, IsRunning, IsStationOf, IsUnbroken, nodes_of, world_of}
+use Rattle.wt_report.specs.declared.options.Options.{Options}
+use Rattle.wt_report.specs.declared.fault.ReportFault.{ReportFault}
+use Rattle.wt_report.specs.Report.{report}
+use Rattle.wt_report.specs.Writes.{Writes}
+use Rattle.wt_outside.specs.Growth.{Grows}
+use Rattle.wt_report.specs.Stations as places
+use Rattle.wt_report.proofs.TraceLaws.{logs_fit}
+use Rattle.wwt_run.specs.declared.status.Status.{Status}
+use Rattle.wwt_run.specs.Jobs.{final_of, output_of_run, status_of_run}
+use Rattle.wwt_run.specs.Status.{status_after_of}
+
+-- the final world of what an engine stands for is that of the start
+pub record IsOnItsWay (machine : MachineParts) (loaded : LoadedImages) (traced : Bool) (engine : EngineModel) : Type 0 where
+  pub machine_is : engine.machine ≡ machine
+  pub unbroken : IsUnbroken engine
+  pub numbers : IsMachine machine
+  pub start : IsWorld (wind_tunnel machine) (IsNode machine) (Fits machine) (start_of machine loaded traced)
+  pub end : final (wind_tunnel machine) (world_of engine) ≡ final_of machine loaded traced
+
+pub from_the_start : (machine : MachineParts) (loaded : LoadedImages) (traced : Bool) (engine : EngineModel) → engine.machine ≡ machine → IsUnbroken engine → IsRunning engine → world_of engine ≡ start_of machine loaded traced → IsOnItsWay machine loaded traced engine
+from_the_start machine loaded traced engine machine_is unbroken running start = record {
+  machine_is = machine_is;
+  unbroken = unbroken;
+  numbers = subst IsMachine machine_is running.numbers;
+  start = subst (λ (w : World). IsWorld (wind_tunnel machine) (IsNode machine) (Fits machine) w) start (subst (λ (m : MachineParts). IsWorld (wind_tunnel m) (IsNode m) (Fits m) (world_of engine)) machine_is running.world);
+  end = ap (final (wind_tunnel machine)) start;
+}
+
+pub a_round_on : (machine : MachineParts) (loaded : LoadedImages) (traced : Bool) (before after : EngineModel) → IsOnItsWay machine loaded traced before → after.machine ≡ before.machine → IsUnbroken after →
+    final (wind_tunnel before.machine) (world_of after) ≡ final (wind_tunnel before.machine) (world_of before) → IsOnItsWay machine loaded traced after
+a_round_on machine loaded traced before after way same unbroken end = record {
+  machine_is = same ∙ way.machine_is;
+  unbroken = unbroken;
+  numbers = way.numbers;
+  start = way.start;
+  end = subst (λ (m : MachineParts). final (wind_tunnel m) (world_of after) ≡ final (wind_tunnel m) (world_of before)) way.machine_is end ∙ way.end;
+}
+
+pub at_the_end : (machine : MachineParts) (loaded : LoadedImages) (traced : Bool) (before after : EngineModel) → IsOnItsWay machine loaded traced before → world_of after ≡ final (wind_tunnel before.machine) (world_of before) → world_of after ≡ final_of machine loaded traced
+at_the_end machine loaded traced before after way last = last ∙ ap (λ (m : MachineParts). final (wind_tunnel m) (world_of before)) way.machine_is ∙ way.end
+
+-- ---- the events may be shown
+
+no_log : (machine : MachineParts) (loaded : LoadedImages) (traced : Bool) (number : ℕ) → (start_node machine loaded traced number).log ≡ []
+unfolding start_node
+no_log machine loaded traced number = refl
+
+none_recorded : (machine : MachineParts) (loaded : LoadedImages) (traced : Bool) (numbers : List ℕ) (node : NodeState) → IsIn node (map (start_node machine loaded traced) numbers) → All (RecordFits machine) node.log
+none_recorded machine loaded traced [] node member = absurd member
+none_recorded machine loaded traced (number ∷ numbers) node (inl is) =
+    let none : node.log ≡ [] = ap (λ (n : NodeState). n.log) is ∙ no_log machine loaded traced number in
+    λ k d within. absurd (let e = ap length none in omega (arith, e))
+none_recorded machine loaded traced (number ∷ numbers) node (inr member) = none_recorded machine loaded traced numbers node member
+
+each_station : (P : NodeState → Type 0) (stations : List StationModel) → ((node : NodeState) → IsIn node (nodes_of stations) → P node) → All (λ (station : StationModel). P station.node.state) stations
+each_station P [] each k d within = absurd (omega arith)
+each_station P (station ∷ stations) each zero d within = each station.node.state (inl refl)
+each_station P (station ∷ stations) each (suc k) d within = each_station P stations (λ node member. each node (inr member)) k d (omega arith)
+
+pub may_show : (machine : MachineParts) (loaded : LoadedImages) (traced : Bool) (engine : EngineModel) → IsMachine machine → IsWorld (wind_tunnel machine) (IsNode machine) (Fits machine) (start_of machine loaded traced) →
+    world_of engine ≡ final_of machine loaded traced → places.MayShowEvents machine engine.stations traced
+may_show machine loaded traced engine numbers start is asked =
+    each_station (λ (node : NodeState). All (RecordFits machine) node.log) engine.stations (λ node member.
+    logs_fit machine numbers (machine.nodes * machine.event_limit) (start_of machine loaded traced) start (λ n m. none_recorded machine loaded traced _ n m) node
+    (subst (λ (w : World). IsIn node w.nodes) is member))
+
+-- ---- the stations of a machine
+
+all_of : {A : Type 0} (P : A → Type 0) (xs : List A) (k : ℕ) (d : A) → All P xs → k < length xs → P (slice_index_or xs k d)
+all_of P xs k d all within = all k d within
+
+numbered_at : (machine : MachineParts) (from : ℕ) (stations : List StationModel) (k : ℕ) (d : StationModel) → IsNumbered (wind_tunnel machine) from (nodes_of stations) → k < length stations → (slice_index_or stations k d).node.state.number ≡ from + k
+numbered_at machine from [] k d numbered within = absurd (omega arith)
+numbered_at machine from (station ∷ stations) zero d numbered within = numbered.0 ∙ omega arith
+numbered_at machine from (station ∷ stations) (suc k) d numbered within = numbered_at machine (suc from) stations k d numbered.1 (omega arith) ∙ omega arith
+
+numbered_length : (machine : MachineParts) (from : ℕ) (stations : List StationModel) → IsNumbered (wind_tunnel machine) from (nodes_of stations) → from + length stations ≡ machine.nodes
+numbered_length machine from [] numbered = let e : from ≡ machine.nodes = numbered in omega (arith, e)
+numbered_length machine from (station ∷ stations) numbered = let rest = numbered_length machine (suc from) stations numbered.1 in omega arith
+
+pub are_stations : (machine : MachineParts) (engine : EngineModel) → engine.machine ≡ machine → All (IsStationOf engine.machine engine.kept_end) engine.stations → IsRunning engine → places.AreStationsOf machine engine.stations
+are_stations machine engine machine_is live running =
+    let numbered = subst (λ (m : MachineParts). IsNumbered (wind_tunnel m) 0 (nodes_of engine.stations)) machine_is running.world.numbered in
+    record {
+      count = let n = numbered_length machine 0 engine.stations numbered in omega (arith, n);
+      each = λ place d within. record {
+        unbroken = (live place d within).whole;
+        machine_is = (live place d within).machine_is ∙ machine_is;
+        number = let n = numbered_at machine 0 engine.stations place d numbered within in omega (arith, n);
+      };
+    }
+
+-- ---- what is written, and the status
+
+module _ (machine : MachineParts) (loaded : LoadedImages) (options : Options) (engine : EngineModel) (head : Head) (is : world_of engine ≡ final_of machine loaded options.trace) (head_is : head ≡ head_of machine (world_of engine)) where
+  pub output_is : report machine head (nodes_of engine.stations) options ≡ output_of_run machine loaded options
+  unfolding output_of_run
+  output_is = ap (λ (h : Head). report machine h (nodes_of engine.stations) options) head_is ∙ ap (λ (w : World). report machine (head_of machine w) w.nodes options) is
+
+  pub status_is : status_after_of head.outcome (nodes_of engine.stations) ≡ status_of_run machine loaded options
+  unfolding status_of_run
+  status_is = ap (λ (h : Head). status_after_of h.outcome (nodes_of engine.stations)) head_is ∙ ap (λ (w : World). status_after_of (outcome_of machine w) w.nodes) is
+
+-- a report of stations that are the engine's
+pub is_written : (machine : MachineParts) (loaded : LoadedImages) (options : Options) (engine : EngineModel) (head : Head) (stations : List StationModel) → IsUnbroken engine → engine.machine ≡ machine → world_of engine ≡ final_of machine loaded options.trace →
+    (IsUnbroken engine → head ≡ head_of engine.machine (world_of engine)) → stations ≡ engine.stations → (result : Result (Unit {0}) ReportFault) (before now : ℕ) (old new : Option (List ℕ)) →
+    Writes (report machine head (nodes_of stations) options) result before now old new → Writes (output_of_run machine loaded options) result before now old new
+is_written machine loaded options engine head stations unbroken machine_is is head_is same result before now old new writes =
+    subst (λ (text : List ℕ). Writes text result before now old new)
+    (ap (λ (s : List StationModel). report machine head (nodes_of s) options) same
+    ∙ output_is machine loaded options engine head is (head_is unbroken ∙ ap (λ (m : MachineParts). head_of m (world_of engine)) machine_is)) writes
+
+pub is_status : (machine : MachineParts) (loaded : LoadedImages) (options : Options) (engine : EngineModel) (head : Head) (stations : List StationModel) → IsUnbroken engine → engine.machine ≡ machine → world_of engine ≡ final_of machine loaded options.trace →
+    (IsUnbroken engine → head ≡ head_of engine.machine (world_of engine)) → stations ≡ engine.stations → status_after_of head.outcome (nodes_of stations) ≡ status_of_run machine loaded options
+is_status machine loaded options engine head stations unbroken machine_is is head_is same =
+    ap (λ (s : List StationModel). status_after_of head.outcome (nodes_of s)) same
+    ∙ status_is machine loaded options engine head is (head_is unbroken ∙ ap (λ (m : MachineParts). head_of m (world_of engine)) machine_is)
+
+pub all_written : (text : List ℕ) (result : Result (Unit {0}) ReportFault) (done : Unit {0}) (before now : ℕ) (old new : Option (List ℕ)) → result ≡ Ok done → Writes text result before now old new → Grows old new text
+all_written text (Ok _) done before now old new is writes = writes.whole
+all_written text (Err fault) done before now old new is writes = cc
