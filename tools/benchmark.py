@@ -1,21 +1,29 @@
 #!/usr/bin/env python3
-"""Measures how many instructions a second `wwt flat` simulates.
+"""Measures how fast wwt simulates.
 
-    tools/benchmark.py [WWT]
+    tools/benchmark.py [WWT..]
 
-WWT is the built program, crates/wwt/out/wwt if it isn't given. No compiler is needed: the programs that are simulated
-are made here, word by word.
+Each WWT is a built program, crates/wwt/out/wwt if none is given. Several are called by turns, so that what else the
+machine does tells on all of them alike. No compiler is needed: the programs that are simulated are made here, word by
+word, or by `wwt load`.
 
-What is measured: a whole call of `wwt flat`, from its start to the end of its report, on a program that never ends, so
-that it runs into the budget of a million cycles, which is a million instructions. One program does arithmetic alone,
-each of RV32I's operations on registers and on numbers in turn; the other only loads and stores, of each width in turn.
-Both jump back once a round. A million instructions take so little time that what else the machine does would tell in a
-single call, so each is called RUNS times and the best call counts. The third line is what a call costs that simulates
-one step alone: the part of the other two that isn't simulation.
+What is measured: a whole call, from its start to the end of its report, of each of these.
 
-Two times are taken: the wall clock's, and the processor time of the call, which says more on a machine that is busy
-with other things too. Each is the best of its own.
+  flat: arithmetic, flat: memory     `wwt flat` on a program that never ends, so that it runs into the budget of a
+                                     million cycles, which is a million instructions. One does arithmetic alone, each of
+                                     RV32I's operations on registers and on numbers in turn; the other only loads and
+                                     stores, of each width in turn. Both jump back once a round.
+  flat: start                        a call that simulates one step alone: the part that isn't simulation
+  run: 1 node, run: 8 nodes          the arithmetic by `wwt run`, on one node and on 8, a million instructions in all
+  run: misses                        8 nodes that write the same blocks in turn, so that nearly every access is a miss,
+                                     which the home serves by a trap
+  load 92, load 93                   the generated machines of these numbers: all to all on 32 nodes, and a stencil
+
+Each is called RUNS times, and the best call counts, since a single call takes so little time that what else the machine
+does would tell. A program that refuses the words has no line. Two times are taken: the wall clock's, and the processor time of the call, which says more on a machine
+that is busy with other things too. Each is the best of its own. An event is an instruction or a message.
 """
+import json
 import os
 import subprocess
 import sys
@@ -54,6 +62,8 @@ def jump_back(count):
 
 # x7 = 2048 = 1024 + 1024
 BEGIN = [1024 << 20 | 7 << 7 | 0x13, 1024 << 20 | 7 << 15 | 7 << 7 | 0x13]
+# x7 = 0x80000000, where shared memory begins
+BEGIN_SHARED = [0x80000 << 12 | 7 << 7 | 0x37]
 
 ARITHMETIC = [
     *(register_op(funct3) for funct3 in range(8)),  # add, sll, slt, sltu, xor, srl, or, and
@@ -71,49 +81,95 @@ MEMORY = [
 ]
 # The word 0 is no instruction: the program stops at it.
 NOTHING = [0]
+# A store to each of the first 16 blocks of shared memory, of 32 bytes each: sw x5, 32 * block(x7)
+MISSES = [5 << 20 | 7 << 15 | 2 << 12 | 0x23 | block << 25 for block in range(16)]
 
 
-def endless(body):
-    return [*BEGIN, *body, jump_back(len(body))]
+def endless(begin, body):
+    return [*begin, *body, jump_back(len(body))]
 
 
-def call(wwt, image):
-    """Calls `wwt flat` once, and returns the report's entries, the wall clock's time and the processor time."""
-    image.seek(0)
-    began = time.perf_counter()
-    with subprocess.Popen([wwt, "flat"], stdin=image, stdout=subprocess.PIPE) as ran:
-        report = ran.stdout.read().decode()
-        _, status, used = os.wait4(ran.pid, 0)
-        took = time.perf_counter() - began
-        ran.returncode = os.waitstatus_to_exitcode(status)
-    return dict(line.partition(" ")[::2] for line in report.splitlines()), took, used.ru_utime + used.ru_stime
+def image(words):
+    return b"".join(word.to_bytes(4, "little") for word in words)
 
 
-def measure(wwt, name, words, outcome):
-    """Says in one line how fast the program of these words is simulated."""
-    with tempfile.TemporaryFile() as image:
-        image.write(b"".join(word.to_bytes(4, "little") for word in words))
-        image.flush()
-        calls = [call(wwt, image) for _ in range(RUNS)]
-    for report, _, _ in calls:
-        found = report.get("outcome")
-        if found != outcome:
-            sys.exit(f"{name}: the outcome is {found}, and {outcome} was expected: {report.get('node')}")
-    count = int(calls[0][0]["events"])
-    wall, processor = (min(it[place] for it in calls) for place in (1, 2))
-    rates = f": {count / wall / 1e6:.1f} and {count / processor / 1e6:.1f} million a second" if count > 1 else ""
-    times = f"{wall * 1000:.2f} ms, {processor * 1000:.2f} ms of processor time"
-    print(f"{name}: {count} step{'s' * (count > 1)} in {times}{rates}")
+def machine(nodes, budget, words):
+    """The description of a machine all of whose nodes run these words until the budget is spent."""
+    images = [{"hex": image(words).hex()}]
+    return json.dumps({"version": 1, "nodes": nodes, "budget": budget, "images": images}).encode()
+
+
+class Case:
+    """A call: its name, its words, the bytes of standard input, those of the file that the words name `machine.json`, and
+    the outcome that its report tells."""
+
+    def __init__(self, name, words, outcome, given=b"", described=b""):
+        self.name, self.words, self.outcome = name, words, outcome
+        self.given, self.described = given, described
+
+    def call(self, wwt, room):
+        """Calls it once in a folder, and returns the number of events, the wall clock's time and the processor time; None
+        where the program, perhaps an older one, refuses the words."""
+        for name, content in (("given", self.given), ("machine.json", self.described)):
+            with open(f"{room}/{name}", "wb") as file:
+                file.write(content)
+        with open(f"{room}/given", "rb") as given:
+            began = time.perf_counter()
+            with subprocess.Popen([wwt, *self.words], stdin=given, stdout=subprocess.PIPE, cwd=room) as ran:
+                report = ran.stdout.read().decode()
+                _, status, used = os.wait4(ran.pid, 0)
+                took = time.perf_counter() - began
+                ran.returncode = os.waitstatus_to_exitcode(status)
+        if ran.returncode == 2:
+            return None
+        entries = dict(line.partition(" ")[::2] for line in report.splitlines())
+        if entries.get("outcome") != self.outcome:
+            sys.exit(f"{wwt}, {self.name}: status {ran.returncode}, and not the outcome {self.outcome}: {report[:500]}")
+        return int(entries["events"]), took, used.ru_utime + used.ru_stime
+
+
+def run_case(name, nodes, budget, words):
+    return Case(name, ["run", "machine.json"], "budget", described=machine(nodes, budget, words))
+
+
+CASES = [
+    Case("flat: arithmetic", ["flat"], "budget", image(endless(BEGIN, ARITHMETIC))),
+    Case("flat: memory", ["flat"], "budget", image(endless(BEGIN, MEMORY))),
+    Case("flat: start", ["flat"], "finished", image(NOTHING)),
+    run_case("run: 1 node", 1, 1000000, endless(BEGIN, ARITHMETIC)),
+    run_case("run: 8 nodes", 8, 125000, endless(BEGIN, ARITHMETIC)),
+    run_case("run: misses", 8, 2000000, endless(BEGIN_SHARED, MISSES)),
+    Case("load 92", ["load", "92"], "finished"),
+    Case("load 93", ["load", "93"], "finished"),
+]
+
+
+def measure(programs, case):
+    """Says in one line for each program how fast the case is simulated."""
+    best = {}
+    with tempfile.TemporaryDirectory() as room:
+        for _ in range(RUNS):
+            for wwt in programs:
+                called = case.call(wwt, room)
+                if called is not None:
+                    events, *times = called
+                    best[wwt] = list(map(min, times, best.get(wwt, times)))
+    for wwt in best:
+        wall, processor = best[wwt]
+        rates = f": {events / wall / 1e6:.1f} and {events / processor / 1e6:.1f} million a second" if events > 1 else ""
+        times = f"{wall * 1000:.2f} ms, {processor * 1000:.2f} ms of processor time"
+        by = f" by {wwt}" if len(programs) > 1 else ""
+        print(f"{case.name}{by}: {events} event{'s' * (events > 1)} in {times}{rates}", flush=True)
 
 
 def main():
     top = os.path.dirname(os.path.dirname(os.path.abspath(__file__)))
-    wwt = os.path.abspath(sys.argv[1]) if len(sys.argv) > 1 else f"{top}/crates/wwt/out/wwt"
-    if not os.access(wwt, os.X_OK):
-        sys.exit(f"there is no built program {wwt}: run `rt run` in crates/wwt, or `rt ci` at the top")
-    measure(wwt, "arithmetic", endless(ARITHMETIC), "budget")
-    measure(wwt, "loads and stores", endless(MEMORY), "budget")
-    measure(wwt, "start alone", NOTHING, "finished")
+    programs = list(map(os.path.abspath, sys.argv[1:])) or [f"{top}/crates/wwt/out/wwt"]
+    for wwt in programs:
+        if not os.access(wwt, os.X_OK):
+            sys.exit(f"there is no built program {wwt}: run `rt run` in crates/wwt, or `rt ci` at the top")
+    for case in CASES:
+        measure(programs, case)
 
 
 main()

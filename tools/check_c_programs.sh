@@ -1,7 +1,9 @@
 #!/usr/bin/env bash
-# Holds wwt to a C compiler: builds each program examples/*.c for RV32I, runs it by `wwt flat`, and compares what it
-# prints with what the same program prints when it is built for this machine. Says a line for each program, and fails
-# where one can't be built, doesn't end itself by the code 0 or prints something else.
+# Holds wwt to a C compiler. It builds each program examples/*.c for RV32I, runs it by `wwt flat`, and compares what it
+# prints with what the same program prints when it is built for this machine. The programs for several nodes it also
+# builds as executables, runs them by `wwt run` on the machines of examples/*.json, and compares what node 0 prints with
+# the stored texts examples/*.txt. Says a line for each program, and fails where one can't be built, doesn't end itself by
+# the code 0 or prints something else.
 #
 #     tools/check_c_programs.sh [WWT]
 #
@@ -13,6 +15,7 @@ top=$(cd "$(dirname "$0")/.." && pwd) || exit 1
 wwt=${1:-$top/crates/wwt/out/wwt}
 # (a name alone would be looked for elsewhere)
 [[ $wwt == */* ]] || wwt=./$wwt
+wwt=$(realpath -m -- "$wwt")
 target=riscv64-unknown-elf
 rv32i=(-march=rv32i -mabi=ilp32)
 
@@ -34,13 +37,18 @@ done
 room=$(mktemp -d) || exit 1
 trap 'rm -rf "$room"' EXIT
 
+# Builds an executable $2 of the C file $1, laid out by the linker's script $3, with further options.
+build_for_rv32i() {
+    local at=$top/examples
+    "$target-gcc" "${rv32i[@]}" -O2 -Wall -Wextra -ffreestanding -nostdlib -T "$at/$3" "${@:4}" \
+        -o "$room/$2" "$at/start.s" "$at/$1" -lgcc
+}
+
 # Builds the program of the name $1 for RV32I and for this machine.
 build() {
-    local at=$top/examples
-    "$target-gcc" "${rv32i[@]}" -O2 -Wall -Wextra -ffreestanding -nostdlib -T "$at/flat.ld" \
-        -o "$room/$1.elf" "$at/start.s" "$at/$1.c" -lgcc \
-        && "$target-objcopy" -O binary "$room/$1.elf" "$room/$1.bin" \
-        && cc -DHOST -O2 -Wall -Wextra -o "$room/$1.host" "$at/$1.c"
+    build_for_rv32i "$1.c" "$1.flat" flat.ld \
+        && "$target-objcopy" -O binary "$room/$1.flat" "$room/$1.bin" \
+        && cc -DHOST -O2 -Wall -Wextra -o "$room/$1.host" "$top/examples/$1.c"
 }
 
 # The bytes of standard input as pairs of hexadecimal digits.
@@ -48,36 +56,68 @@ pairs() {
     od -An -v -tx1 | tr -d ' \n'
 }
 
-# Builds and runs the program of the name $1, and says in one line how that went.
-check() {
-    local status events size wanted found
-    build "$1" || { echo "$1: NOT BUILT"; return 1; }
-    timeout 60 "$room/$1.host" </dev/null >"$room/$1.text"
-    status=$?
-    [ "$status" = 0 ] || { echo "$1: FAILED, built for this machine it ended by the status $status"; return 1; }
-    timeout 60 "$wwt" flat <"$room/$1.bin" >"$room/$1.report"
-    status=$?
-    if [ "$status" != 0 ]; then
-        echo "$1: FAILED, wwt ended by the status $status: $(grep '^node 0 ' "$room/$1.report")"
-        return 1
-    fi
-    wanted=$(pairs <"$room/$1.text")
+# The number that stands after the word $2 in the line of the report $1 that begins with $3.
+number() {
+    sed -n "s/^$3\(.* \)\?$2 \([0-9]*\).*/\2/p" "$room/$1.report"
+}
+
+# Compares what node 0 put out in the report of the name $1 with the text of a file $2, and says what is the same, or where
+# they differ.
+compare() {
+    local size wanted found
+    wanted=$(pairs <"$2")
     size=$((${#wanted} / 2))
     # (no space follows the size where there is no byte)
     wanted="out 0 $size${wanted:+ $wanted}"
     found=$(grep '^out 0 ' "$room/$1.report")
     if [ "$found" != "$wanted" ]; then
-        echo "$1: DIFFERENT"
-        echo "  by cc:  $wanted"
+        echo "DIFFERENT"
+        echo "  wanted: $wanted"
         echo "  by wwt: $found"
         return 1
     fi
-    events=$(sed -n 's/^events //p' "$room/$1.report")
-    echo "$1: same output, $size bytes, after $events instructions"
+    echo "same output, $size bytes, after $(number "$1" steps total) instructions and $(number "$1" traps total) traps"
+}
+
+# Builds and runs the program of the name $1 on one node, and says in one line how that went.
+check() {
+    local status
+    echo -n "$1: "
+    build "$1" || { echo "NOT BUILT"; return 1; }
+    timeout 60 "$room/$1.host" </dev/null >"$room/$1.text"
+    status=$?
+    [ "$status" = 0 ] || { echo "FAILED, built for this machine it ended by the status $status"; return 1; }
+    timeout 60 "$wwt" flat <"$room/$1.bin" >"$room/$1.report"
+    status=$?
+    if [ "$status" != 0 ]; then
+        echo "FAILED, wwt ended by the status $status: $(grep '^node 0 ' "$room/$1.report")"
+        return 1
+    fi
+    compare "$1" "$room/$1.text"
+}
+
+# Builds the C file $2 as the image of the machine examples/$1.json, with further options, runs it there, and says in one
+# line how that went.
+check_machine() {
+    local status
+    echo -n "$1.json: "
+    build_for_rv32i "$2.c" "$1.elf" machine.ld "${@:3}" || { echo "NOT BUILT"; return 1; }
+    cp "$top/examples/$1.json" "$room" || return 1
+    (cd "$room" && timeout 60 "$wwt" run "$1.json" >"$1.report")
+    status=$?
+    if [ "$status" != 0 ]; then
+        echo "FAILED, wwt ended by the status $status: $(grep '^node ' "$room/$1.report")"
+        return 1
+    fi
+    compare "$1" "$top/examples/$2.txt"
 }
 
 failed=0
 for source in "$top"/examples/*.c; do
     check "$(basename "$source" .c)" || failed=1
 done
+check_machine sum sum || failed=1
+check_machine ring ring || failed=1
+check_machine stencil stencil || failed=1
+check_machine stencil_plain stencil -DPLAIN || failed=1
 exit "$failed"
