@@ -2,8 +2,8 @@
 # Holds wwt to a C compiler. It builds each program examples/*.c for RV32I, runs it by `wwt flat`, and compares what it
 # prints with what the same program prints when it is built for this machine. The programs for several nodes it also
 # builds as executables, runs them by `wwt run` on the machines of examples/*.json, and compares what node 0 prints with
-# the stored texts examples/*.txt. Says a line for each program, and fails where one can't be built, doesn't end itself by
-# the code 0 or prints something else.
+# the stored texts examples/*.txt. The stored executables are run so, too, with or without a compiler. Says a line for
+# each program, and fails where one can't be built, doesn't end itself by the code 0 or prints something else.
 #
 #     tools/check_c_programs.sh [WWT]
 #
@@ -27,13 +27,6 @@ skip() {
 if [ ! -f "$wwt" ] || [ ! -x "$wwt" ]; then
     skip "there is no built program $wwt"
 fi
-for tool in "$target-gcc" "$target-objcopy" cc; do
-    command -v "$tool" >/dev/null || skip "$tool isn't installed"
-done
-# A compiler without a libgcc of its own for RV32I names that of another instruction set.
-[ "$("$target-gcc" "${rv32i[@]}" -print-multi-directory 2>/dev/null)" = rv32i/ilp32 ] \
-    || skip "$target-gcc has no libgcc for RV32I"
-
 room=$(mktemp -d) || exit 1
 trap 'rm -rf "$room"' EXIT
 
@@ -79,6 +72,25 @@ compare() {
     echo "same output, $size bytes, after $(number "$1" steps total) instructions and $(number "$1" traps total) traps"
 }
 
+# Runs the machine $1.json, with its images in the folder of temporary files, and says how that went.
+run_machine() {
+    local status
+    cp "$top/examples/$1.json" "$room" || return 1
+    (cd "$room" && timeout 60 "$wwt" run "$1.json" >"$1.report")
+    status=$?
+    if [ "$status" != 0 ]; then
+        echo "FAILED, wwt ended by the status $status: $(grep '^node ' "$room/$1.report")"
+        return 1
+    fi
+    compare "$1" "$top/examples/$2.txt"
+}
+
+# Runs the machine examples/$1.json with its stored image, and says in one line how that went.
+check_stored() {
+    echo -n "$1.elf, as stored: "
+    cp "$top/examples/$1.elf" "$room" && run_machine "$1" "$2"
+}
+
 # Builds and runs the program of the name $1 on one node, and says in one line how that went.
 check() {
     local status
@@ -99,20 +111,23 @@ check() {
 # Builds the C file $2 as the image of the machine examples/$1.json, with further options, runs it there, and says in one
 # line how that went.
 check_machine() {
-    local status
     echo -n "$1.json: "
     build_for_rv32i "$2.c" "$1.elf" machine.ld "${@:3}" || { echo "NOT BUILT"; return 1; }
-    cp "$top/examples/$1.json" "$room" || return 1
-    (cd "$room" && timeout 60 "$wwt" run "$1.json" >"$1.report")
-    status=$?
-    if [ "$status" != 0 ]; then
-        echo "FAILED, wwt ended by the status $status: $(grep '^node ' "$room/$1.report")"
-        return 1
-    fi
-    compare "$1" "$top/examples/$2.txt"
+    run_machine "$1" "$2"
 }
 
 failed=0
+check_stored stencil stencil || failed=1
+check_stored stencil_plain stencil || failed=1
+[ "$failed" = 0 ] || exit 1
+
+for tool in "$target-gcc" "$target-objcopy" cc; do
+    command -v "$tool" >/dev/null || skip "$tool isn't installed"
+done
+# A compiler without a libgcc of its own for RV32I names that of another instruction set.
+[ "$("$target-gcc" "${rv32i[@]}" -print-multi-directory 2>/dev/null)" = rv32i/ilp32 ] \
+    || skip "$target-gcc has no libgcc for RV32I"
+
 for source in "$top"/examples/*.c; do
     check "$(basename "$source" .c)" || failed=1
 done
