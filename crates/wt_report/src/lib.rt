@@ -18,6 +18,7 @@ mod write;
 pub use fault::ReportFault;
 pub use options::Options;
 pub use report::write_report;
+pub use trace::traces_are_serial;
 
 #[cfg(test)]
 mod tests;
