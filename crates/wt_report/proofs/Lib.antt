@@ -5,4 +5,5 @@ pub mod StationLemmas
 pub mod TextLemmas
 pub mod TraceLaws
 pub mod TraceLemmas
+pub mod TraceOrder
 pub mod WriteLemmas

@@ -14,7 +14,7 @@ use Rattle.wt_trace.specs.EventLine.{WhatFits, RecordFits}
 use Rattle.discrete_events.specs.Simulation.{Event, Step, Arrival}
 use Rattle.discrete_events.specs.World.{events_in, least}
 use Rattle.discrete_events.specs.Serial.{is_for, node_after, after_least, serial_step, serial}
-use Rattle.discrete_events.specs.Laws.{IsIn, IsSent, Reacts, IsSimulation, IsWorld}
+use Rattle.discrete_events.specs.Laws.{IsIn, IsSent, Reacts, IsSimulation}
 use Rattle.discrete_events.proofs.Lists.{from_map}
 use Rattle.discrete_events.proofs.Events.{IsEventBelow, event_is, event_to, least_in}
 use Rattle.discrete_events.proofs.Stations as stations
@@ -26,6 +26,7 @@ use Rattle.node.specs.Sound.{IsNode}
 use Rattle.node.specs.Laws.{Fits, IsDueAt, IsCounted}
 use Rattle.node.proofs.EventKept.{machines_are_simulations}
 use Rattle.quantum.specs.World.{World}
+use Rattle.wt_report.specs.Trace.{IsWorldOf}
 use Rattle.wt_report.proofs.TraceLemmas.{each_of_all}
 
 what_fits : (machine : MachineParts) (node : NodeState) (key : Key) (event : Event Msg) → IsDueAt machine node key event → WhatFits machine (record_of machine node event).what
@@ -42,28 +43,25 @@ logged_fits machine true item log one all = All-append (RecordFits machine) log 
 logged_fits machine false item log one all = all
 
 module _ (machine : MachineParts) (is : IsMachine machine) where
-  abbrev IsWorldOf : World → Type 0
-  IsWorldOf world = IsWorld (wind_tunnel machine) (IsNode machine) (Fits machine) world
-
-  laws : IsSimulation (wind_tunnel machine) (IsNode machine) (Fits machine)
+  pub laws : IsSimulation (wind_tunnel machine) (IsNode machine) (Fits machine)
   laws = (machines_are_simulations machine is).laws
 
   -- ---- the event that a world handles next, at its node
 
-  module _ (world : World) (ok : IsWorldOf world) (key : Key) (event : Event Msg) (is_least : least (events_in (wind_tunnel machine) world) ≡ Some (key, event)) where
-    at : IsEventBelow (wind_tunnel machine) machine.budget world.nodes world.pending key event
+  module _ (world : World) (ok : IsWorldOf machine world) (key : Key) (event : Event Msg) (is_least : least (events_in (wind_tunnel machine) world) ≡ Some (key, event)) where
+    pub at : IsEventBelow (wind_tunnel machine) machine.budget world.nodes world.pending key event
     at = event_is (wind_tunnel machine) machine.budget world.nodes world.pending key event (least_in _ (key, event) is_least)
 
-    named : key.to ≡ at.node.number
+    pub named : key.to ≡ at.node.number
     named = event_to (wind_tunnel machine) world.pending at.node key event at.of_node
 
     due : IsDueAt machine at.node key event
     due = stations.due (wind_tunnel machine) (IsNode machine) (Fits machine) laws machine.budget world.nodes world.pending key event is_least at (ok.stations at.node at.member) (omega arith)
 
-    reacts : Reacts (wind_tunnel machine) (IsNode machine) (Fits machine) at.node key (react machine at.node event).0 (map message_under_key (react machine at.node event).1)
+    pub reacts : Reacts (wind_tunnel machine) (IsNode machine) (Fits machine) at.node key (react machine at.node event).0 (map message_under_key (react machine at.node event).1)
     reacts = laws.reacts at.node key event (ok.stations at.node at.member).sound due
 
-    counted : IsCounted machine at.node key event
+    pub counted : IsCounted machine at.node key event
     counted = (machines_are_simulations machine is).counts at.node key event (ok.stations at.node at.member).sound due
 
     item_fits : RecordFits machine (record_of machine at.node event)
@@ -82,7 +80,7 @@ module _ (machine : MachineParts) (is : IsMachine machine) where
         ∙ quantum_or_not (wind_tunnel machine) (λ (w : World). w.nodes ≡ map (node_after (wind_tunnel machine) key event) world.nodes) (moved (wind_tunnel machine) key event world) key.time refl refl
 
     -- what goes on for that node and for the others goes on for all
-    goes_on : (P Q : NodeState → Type 0) → (P at.node → Q (react machine at.node event).0) → ((node : NodeState) → IsIn node world.nodes → is_for (wind_tunnel machine) key node ≡ false → P node → Q node) →
+    pub goes_on : (P Q : NodeState → Type 0) → (P at.node → Q (react machine at.node event).0) → ((node : NodeState) → IsIn node world.nodes → is_for (wind_tunnel machine) key node ≡ false → P node → Q node) →
         ((node : NodeState) → IsIn node world.nodes → P node) → (node : NodeState) → IsIn node (serial_step (wind_tunnel machine) world).nodes → Q node
     goes_on P Q here elsewhere all node member = of (from_map (node_after (wind_tunnel machine) key event) node world.nodes (subst (IsIn node) nodes_then member))
       where
@@ -99,12 +97,12 @@ module _ (machine : MachineParts) (is : IsMachine machine) where
         (λ node member other all. all)
 
   -- the messages of all that a serial run records are ones that the machine can have
-  pub logs_fit : (n : ℕ) (world : World) → IsWorldOf world → ((node : NodeState) → IsIn node world.nodes → All (RecordFits machine) node.log) → (node : NodeState) → IsIn node (serial (wind_tunnel machine) n world).nodes → All (RecordFits machine) node.log
+  pub logs_fit : (n : ℕ) (world : World) → IsWorldOf machine world → ((node : NodeState) → IsIn node world.nodes → All (RecordFits machine) node.log) → (node : NodeState) → IsIn node (serial (wind_tunnel machine) n world).nodes → All (RecordFits machine) node.log
   logs_fit zero world ok fit node member = fit node (subst (λ (w : World). IsIn node w.nodes) (serial-zero (wind_tunnel machine) world) member)
   logs_fit (suc n) world ok fit node member =
       by (serial (wind_tunnel machine) n world) (world_of_serial (wind_tunnel machine) (IsNode machine) (Fits machine) laws n world ok) (logs_fit n world ok fit) (least (events_in (wind_tunnel machine) (serial (wind_tunnel machine) n world))) refl
       (subst (λ (w : World). IsIn node w.nodes) (serial-suc (wind_tunnel machine) n world) member)
     where
-      by : (w : World) → IsWorldOf w → ((node : NodeState) → IsIn node w.nodes → All (RecordFits machine) node.log) → (o : Option (Key × Event Msg)) → least (events_in (wind_tunnel machine) w) ≡ o → IsIn node (serial_step (wind_tunnel machine) w).nodes → All (RecordFits machine) node.log
+      by : (w : World) → IsWorldOf machine w → ((node : NodeState) → IsIn node w.nodes → All (RecordFits machine) node.log) → (o : Option (Key × Event Msg)) → least (events_in (wind_tunnel machine) w) ≡ o → IsIn node (serial_step (wind_tunnel machine) w).nodes → All (RecordFits machine) node.log
       by w it so_far None none there = so_far node (subst (λ (v : World). IsIn node v.nodes) (ap (after_least (wind_tunnel machine) w) none) there)
       by w it so_far (Some (key, event)) some there = fit_then w it key event some so_far node there

@@ -1,4 +1,5 @@
 pub mod Memory
 pub mod Report
 pub mod Stations
+pub mod Trace
 pub mod Writes

@@ -18,6 +18,4 @@ mod write;
 pub use fault::ReportFault;
 pub use options::Options;
 pub use report::write_report;
-
-#[cfg(test)]
-mod tests;
+pub use trace::traces_are_serial;

@@ -3,6 +3,7 @@ ghost use Rattle.wt_trace.specs.EventLine.{RecordFits, line_of};
 ghost use Rattle.wt_trace.specs.Merged.{merge_of};
 ghost use Rattle.wt_report.specs.Report.{logs_of, trace_text};
 ghost use Rattle.wt_report.specs.Stations.{MayShowEvents, nodes_of};
+ghost use Rattle.wt_report.specs.Trace.{TraceIsSerial};
 ghost use Rattle.wt_report.specs.Writes.{Writes};
 
 use crate::fault::ReportFault;
@@ -78,3 +79,9 @@ fn write_event<K: Sink>(
     let line = line(alloc, item, machine)?;
     write_line(&line, out)
 }
+
+/// The merged logs of a traced run are its records in the order in which the serial simulation
+/// handles the events, and so are the lines of its report.
+pub fn traces_are_serial()
+    ensures { TraceIsSerial }
+{}
