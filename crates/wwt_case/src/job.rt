@@ -13,11 +13,18 @@ pub(crate) struct Described {
 #[derive(Debug, Drop)]
 pub enum Job {
     /// Print a machine and its images.
-    Check { machine: Machine, loaded: Loaded },
+    Check {
+        machine: Machine,
+        loaded: Loaded,
+    },
     /// Print the words of an image.
-    Dis { image: Image },
+    Dis {
+        image: Image,
+    },
     /// Run flat bytes on the flat machine.
-    Flat { loaded: Loaded },
+    Flat {
+        loaded: Loaded,
+    },
     /// Run a machine, and tell its events, registers and memories where they are asked for.
     Run {
         machine: Machine,
@@ -26,5 +33,8 @@ pub enum Job {
         memory: bool,
     },
     /// Run a generated machine.
-    Load { machine: Machine, loaded: Loaded },
+    Load {
+        machine: Machine,
+        loaded: Loaded,
+    },
 }

@@ -1,4 +1,3 @@
-pub mod Appends
 pub mod LineLemmas
 pub mod AnswerLemmas
 pub mod RefusedLemmas

@@ -36,25 +36,6 @@ pub record IsOnItsWay (machine : MachineParts) (loaded : LoadedImages) (traced :
   pub start : IsWorld (wind_tunnel machine) (IsNode machine) (Fits machine) (start_of machine loaded traced)
   pub end : final (wind_tunnel machine) (world_of engine) ≡ final_of machine loaded traced
 
-pub from_the_start : (machine : MachineParts) (loaded : LoadedImages) (traced : Bool) (engine : EngineModel) → engine.machine ≡ machine → IsUnbroken engine → IsRunning engine → world_of engine ≡ start_of machine loaded traced → IsOnItsWay machine loaded traced engine
-from_the_start machine loaded traced engine machine_is unbroken running start = record {
-  machine_is = machine_is;
-  unbroken = unbroken;
-  numbers = subst IsMachine machine_is running.numbers;
-  start = subst (λ (w : World). IsWorld (wind_tunnel machine) (IsNode machine) (Fits machine) w) start (subst (λ (m : MachineParts). IsWorld (wind_tunnel m) (IsNode m) (Fits m) (world_of engine)) machine_is running.world);
-  end = ap (final (wind_tunnel machine)) start;
-}
-
-pub a_round_on : (machine : MachineParts) (loaded : LoadedImages) (traced : Bool) (before after : EngineModel) → IsOnItsWay machine loaded traced before → after.machine ≡ before.machine → IsUnbroken after →
-    final (wind_tunnel before.machine) (world_of after) ≡ final (wind_tunnel before.machine) (world_of before) → IsOnItsWay machine loaded traced after
-a_round_on machine loaded traced before after way same unbroken end = record {
-  machine_is = same ∙ way.machine_is;
-  unbroken = unbroken;
-  numbers = way.numbers;
-  start = way.start;
-  end = subst (λ (m : MachineParts). final (wind_tunnel m) (world_of after) ≡ final (wind_tunnel m) (world_of before)) way.machine_is end ∙ way.end;
-}
-
 pub at_the_end : (machine : MachineParts) (loaded : LoadedImages) (traced : Bool) (before after : EngineModel) → IsOnItsWay machine loaded traced before → world_of after ≡ final (wind_tunnel before.machine) (world_of before) → world_of after ≡ final_of machine loaded traced
 at_the_end machine loaded traced before after way last = last ∙ ap (λ (m : MachineParts). final (wind_tunnel m) (world_of before)) way.machine_is ∙ way.end
 
@@ -84,9 +65,6 @@ may_show machine loaded traced engine numbers start is asked =
     (subst (λ (w : World). IsIn node w.nodes) is member))
 
 -- ---- the stations of a machine
-
-all_of : {A : Type 0} (P : A → Type 0) (xs : List A) (k : ℕ) (d : A) → All P xs → k < length xs → P (slice_index_or xs k d)
-all_of P xs k d all within = all k d within
 
 numbered_at : (machine : MachineParts) (from : ℕ) (stations : List StationModel) (k : ℕ) (d : StationModel) → IsNumbered (wind_tunnel machine) from (nodes_of stations) → k < length stations → (slice_index_or stations k d).node.state.number ≡ from + k
 numbered_at machine from [] k d numbered within = absurd (omega arith)

@@ -13,4 +13,6 @@ pub use status::Status;
 pub use top::wwt_plain;
 
 #[cfg(test)]
+mod reports;
+#[cfg(test)]
 mod tests;
