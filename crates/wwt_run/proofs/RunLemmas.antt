@@ -13,19 +13,21 @@ use Rattle.node.specs.Sound.{IsNode}
 use Rattle.node.specs.Start.{start_node}
 use Rattle.wt_stats.specs.declared.head.Head.{Head}
 use Rattle.wt_trace.specs.EventLine.{RecordFits}
+use Rattle.wt_trace.specs.Merged.{merge_of}
 use Rattle.quantum.specs.Outcome.{head_of, outcome_of}
 use Rattle.quantum.specs.Stations.{StationModel, machine_of}
 use Rattle.quantum.specs.World.{World, start_of}
 use Rattle.engine.specs.Engine.{EngineModel, IsRunning, IsStationOf, IsUnbroken, nodes_of, world_of}
 use Rattle.wt_report.specs.declared.options.Options.{Options}
 use Rattle.wt_report.specs.declared.fault.ReportFault.{ReportFault}
-use Rattle.wt_report.specs.Report.{report}
+use Rattle.wt_report.specs.Report.{logs_of, report}
 use Rattle.wt_report.specs.Writes.{Writes}
 use Rattle.wt_outside.specs.Growth.{Grows}
 use Rattle.wt_report.specs.Stations as places
 use Rattle.wt_report.proofs.TraceLaws.{logs_fit}
+use Rattle.wt_report.proofs.TraceOrder.{trace_is_serial}
 use Rattle.wwt_run.specs.declared.status.Status.{Status}
-use Rattle.wwt_run.specs.Jobs.{final_of, output_of_run, status_of_run}
+use Rattle.wwt_run.specs.Jobs.{AreInSerialOrder, final_of, output_of_run, status_of_run}
 use Rattle.wwt_run.specs.Status.{status_after_of}
 
 -- the final world of what an engine stands for is that of the start
@@ -63,6 +65,12 @@ may_show machine loaded traced engine numbers start is asked =
     each_station (λ (node : NodeState). All (RecordFits machine) node.log) engine.stations (λ node member.
     logs_fit machine numbers (machine.nodes * machine.event_limit) (start_of machine loaded traced) start (λ n m. none_recorded machine loaded traced _ n m) node
     (subst (λ (w : World). IsIn node w.nodes) is member))
+
+pub in_serial_order : (machine : MachineParts) (loaded : LoadedImages) (traced : Bool) (world : World) → IsMachine machine → IsWorld (wind_tunnel machine) (IsNode machine) (Fits machine) (start_of machine loaded traced) →
+    world ≡ final_of machine loaded traced → AreInSerialOrder machine loaded traced world
+in_serial_order machine loaded traced world numbers start is asked =
+    let traced_start = subst (λ (t : Bool). IsWorld (wind_tunnel machine) (IsNode machine) (Fits machine) (start_of machine loaded t)) asked start in
+    ap (λ (w : World). merge_of (logs_of w.nodes)) (is ∙ ap (final_of machine loaded) asked) ∙ (trace_is_serial machine numbers).whole loaded traced_start
 
 -- ---- the stations of a machine
 

@@ -17,7 +17,9 @@ use Rattle.wwt_run.specs.declared.status.Status.TheVariants.{Done}
 use Rattle.quantum.specs.World.{World, start_of}
 use Rattle.quantum.specs.Outcome.{head_of}
 use Rattle.wt_report.specs.declared.options.Options.{Options}
-use Rattle.wt_report.specs.Report.{report}
+use Rattle.wt_report.specs.Report.{logs_of, report}
+use Rattle.wt_report.specs.Trace.{whole_history}
+use Rattle.wt_trace.specs.Merged.{merge_of}
 use Rattle.wwt_run.specs.Status.{status_of_world, status_of_refusal}
 
 -- the world in which a run ends
@@ -27,6 +29,11 @@ final_of machine loaded traced = final (wind_tunnel machine) (start_of machine l
 -- what is written for a world
 abbrev pub out_of : MachineParts → World → Options → List ℕ
 out_of machine world options = report machine (head_of machine world) world.nodes options
+
+-- The events of a traced run, merged, are in the order in which the serial simulation handles them.
+abbrev pub AreInSerialOrder : MachineParts → LoadedImages → Bool → World → Type 0
+AreInSerialOrder machine loaded traced world =
+    traced ≡ true → merge_of (logs_of world.nodes) ≡ whole_history machine loaded
 
 -- the status of a run
 unfoldable pub status_of_run : MachineParts → LoadedImages → Options → Status

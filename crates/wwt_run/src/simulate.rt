@@ -2,7 +2,7 @@ ghost use Rattle.std.specs.Prelude.{◌≡◌, All, IfOk};
 ghost use Rattle.image_loader.specs.Images.{IsFor};
 ghost use Rattle.wt_report.specs.Stations.{AreStationsOf, MayShowEvents};
 ghost use Rattle.engine.specs.Engine.{IsUnbroken, world_of};
-ghost use Rattle.wwt_run.specs.Jobs.{final_of};
+ghost use Rattle.wwt_run.specs.Jobs.{AreInSerialOrder, final_of};
 
 use engine::{Engine, Round};
 use image_loader::Loaded;
@@ -21,6 +21,7 @@ pub fn simulate(
     ensures machine { IfOk result (λ engine. engine.machine ≡ machine.now) }
     ensures unbroken { IfOk result IsUnbroken }
     ensures events { IfOk result (λ engine. MayShowEvents machine.now engine.stations traced) }
+    ensures order { IfOk result (λ engine. AreInSerialOrder machine.now loaded.now traced (world_of engine)) }
 {
     let mut engine = Engine::new(alloc, *machine, loaded, traced)?;
     loop {
