@@ -13,12 +13,17 @@ struct Ran {
     err: MemSink,
 }
 
-/// A store of standard input and of the files `m`, `a.elf` and `b.elf`, where the reads with these
-/// numbers fail.
-fn store_of(alloc: Global, files: [&[u8]; 4], failing: &[u64]) -> Result<MemStore, Fail> {
-    let [input, m, a, b] = files;
+/// A store of standard input alone, where the reads with these numbers fail.
+fn input_of(alloc: Global, input: &[u8], failing: &[u64]) -> Result<MemStore, Fail> {
     let mut held = Vec::new(alloc);
     held.push((String::from_str(alloc, "-")?, input.to_vec(alloc)?))?;
+    Ok(MemStore::new(alloc, held, failing.to_vec(alloc)?))
+}
+
+/// A store of the files `m`, `a.elf` and `b.elf`, where the reads with these numbers fail.
+fn files_of(alloc: Global, files: [&[u8]; 3], failing: &[u64]) -> Result<MemStore, Fail> {
+    let [m, a, b] = files;
+    let mut held = Vec::new(alloc);
     held.push((String::from_str(alloc, "m")?, m.to_vec(alloc)?))?;
     held.push((String::from_str(alloc, "a.elf")?, a.to_vec(alloc)?))?;
     held.push((String::from_str(alloc, "b.elf")?, b.to_vec(alloc)?))?;
@@ -44,15 +49,26 @@ fn run_over(
     Ok(Ran { status, out, err })
 }
 
+/// Runs flat bytes.
+fn run_flat(alloc: Global, input: &[u8]) -> Result<Ran, Fail> {
+    let mut store = input_of(alloc, input, &[])?;
+    run_over(alloc, &["flat"], &mut store, &[], 0)
+}
+
 /// Calls the program on these words over these files, where the reads with these numbers fail.
-fn run(alloc: Global, words: &[&str], files: [&[u8]; 4], failing: &[u64]) -> Result<Ran, Fail> {
-    let mut store = store_of(alloc, files, failing)?;
+fn run_files(
+    alloc: Global,
+    words: &[&str],
+    files: [&[u8]; 3],
+    failing: &[u64],
+) -> Result<Ran, Fail> {
+    let mut store = files_of(alloc, files, failing)?;
     run_over(alloc, words, &mut store, &[], 0)
 }
 
 /// Calls the program on these words over a description `m`, where `a.elf` is an executable.
 fn run_machine(alloc: Global, words: &[&str], machine: &[u8]) -> Result<Ran, Fail> {
-    run(alloc, words, [b"", machine, LINKED_FILE, b""], &[])
+    run_files(alloc, words, [machine, LINKED_FILE, b""], &[])
 }
 
 /// A text by its parts.
@@ -79,7 +95,7 @@ fn is_refused(rt: &impl Abort, ran: &Ran, status: Status, line: &[u8]) {
 #[test]
 fn flat_runs_print_their_reports(rt: HostRuntime) -> Result<(), Fail> {
     for (input, status, text) in FLAT_RUNS {
-        let ran = run(rt.alloc(), &["flat"], [input, b"", b"", b""], &[])?;
+        let ran = run_flat(rt.alloc(), input)?;
         prints(&rt, &ran, status, text);
     }
     Ok(())
@@ -211,7 +227,7 @@ fn words_are_refused(rt: HostRuntime) -> Result<(), Fail> {
         &["Flat"],
     ];
     for words in rows {
-        let ran = run(rt.alloc(), words, [PRINT_A, SHARED_LOAD, b"", b""], &[])?;
+        let ran = run_machine(rt.alloc(), words, SHARED_LOAD)?;
         is_refused(&rt, &ran, Status::Usage, USAGE);
     }
     Ok(())
@@ -225,7 +241,7 @@ fn long_input_is_refused(rt: HostRuntime) -> Result<(), Fail> {
     ];
     for (length, line) in rows {
         let input = vec![in rt.alloc(); 0; length]?;
-        let ran = run(rt.alloc(), &["flat"], [&input, b"", b"", b""], &[])?;
+        let ran = run_flat(rt.alloc(), &input)?;
         is_refused(&rt, &ran, Status::BadImage, line);
     }
     Ok(())
@@ -236,7 +252,7 @@ fn input_that_cannot_be_read_is_told(rt: HostRuntime) -> Result<(), Fail> {
     let alloc = rt.alloc();
     // A read that fails, and a name that is missing.
     let mut stores = Vec::new(alloc);
-    stores.push(store_of(alloc, [PRINT_A, b"", b"", b""], &[0])?)?;
+    stores.push(input_of(alloc, PRINT_A, &[0])?)?;
     stores.push(MemStore::new(alloc, Vec::new(alloc), Vec::new(alloc)))?;
     for mut store in stores {
         let ran = run_over(rt.alloc(), &["flat"], &mut store, &[], 0)?;
@@ -248,32 +264,32 @@ fn input_that_cannot_be_read_is_told(rt: HostRuntime) -> Result<(), Fail> {
 #[test]
 fn want_of_memory_is_told(rt: HostRuntime) -> Result<(), Fail> {
     let mut err = MemSink::new(rt.alloc(), 4096, Vec::new(rt.alloc()), 0)?;
-    assert_eq!(rt; out_of_memory(&mut err), Status::NoMemory);
+    assert_eq!(rt; out_of_memory(&mut err).code(), 10);
     assert_eq!(rt; err.bytes(), b"wwt: out of memory\n".as_slice());
     Ok(())
 }
 
+fn is_cut(rt: &impl Abort, ran: &Ran, text: &[u8]) {
+    assert_eq!(rt; ran.out.bytes(), text);
+    assert_eq!(rt; ran.err.bytes(), b"wwt: write failed\n".as_slice());
+    assert_eq!(rt; ran.status, Some(Status::WriteFault));
+}
+
 #[test]
 fn a_write_that_fails_ends_the_report(rt: HostRuntime) -> Result<(), Fail> {
-    // The words, the write that fails, how much of it is written, and what is written in all.
-    let rows: [(&[&str], u64, u64, &[u8]); 2] = [
-        (&["flat"], 1, 0, b"outcome finished\n"),
-        // It is the line of the third event.
-        (
-            &["run", "--trace", "m"],
-            6,
-            9,
-            b"outcome finished\nevents 10\ntime 306\nquanta 4\n\
+    let alloc = rt.alloc();
+    let mut store = input_of(alloc, PRINT_A, &[])?;
+    let ran = run_over(alloc, &["flat"], &mut store, &[1], 0)?;
+    is_cut(&rt, &ran, b"outcome finished\n");
+    // The write of the third event's line fails, with nine bytes of it written.
+    let mut store = files_of(alloc, [SHARED_LOAD, b"", b""], &[])?;
+    let ran = run_over(alloc, &["run", "--trace", "m"], &mut store, &[6], 9)?;
+    is_cut(
+        &rt,
+        &ran,
+        b"outcome finished\nevents 10\ntime 306\nquanta 4\n\
 event 0 0 step 0x00000000 0x05d00893\nevent 0 1 step 0x00000000 0x800002b7\nevent 1 0",
-        ),
-    ];
-    for (words, failing, kept, text) in rows {
-        let mut store = store_of(rt.alloc(), [PRINT_A, SHARED_LOAD, b"", b""], &[])?;
-        let ran = run_over(rt.alloc(), words, &mut store, &[failing], kept)?;
-        assert_eq!(rt; ran.status.map(|status| status.code()), Some(9));
-        assert_eq!(rt; ran.out.bytes(), text);
-        assert_eq!(rt; ran.err.bytes(), b"wwt: write failed\n".as_slice());
-    }
+    );
     Ok(())
 }
 
@@ -284,7 +300,7 @@ const LARGEST: &[u8] =
 
 #[test]
 fn a_machine_is_printed(rt: HostRuntime) -> Result<(), Fail> {
-    let ran = run(rt.alloc(), &["check", "m"], [b"", LARGEST, b"", b""], &[])?;
+    let ran = run_machine(rt.alloc(), &["check", "m"], LARGEST)?;
     let text =
         b"version 1\nnodes 32\nprivate_bytes 4194304\nblock_bytes 64\nblocks 65536\nsets 64\n\
 ways 4\nlatency 100\nself_latency 10\nquantum 100\nevent_limit 4294967296\nbudget 4294967296\n\
@@ -333,7 +349,7 @@ const REFUSED: [(&[u8], Status, &[u8]); 7] = [
 fn machines_are_refused(rt: HostRuntime) -> Result<(), Fail> {
     for (description, status, line) in REFUSED {
         for word in ["check", "run"] {
-            let ran = run(rt.alloc(), &[word, "m"], [b"", description, b"", b""], &[])?;
+            let ran = run_machine(rt.alloc(), &[word, "m"], description)?;
             is_refused(&rt, &ran, status, line);
         }
     }
@@ -352,44 +368,57 @@ const BOTH_FLAT: &[u8] = br#"{"version":1,"nodes":2,"private_bytes":4096,
 const HEADER: &[u8] = b"\x7fELF\x01\x01\x01\0\0\0\0\0\0\0\0\0\x02\0\xf3\0\x01\0\0\0\0\0\0\0\
 \x34\0\0\0\0\0\0\0\0\0\0\0\x34\0\x20\0\0\0\0\0\0\0\0\0";
 
+/// The same, one byte short.
+const CUT_HEADER: &[u8] = b"\x7fELF\x01\x01\x01\0\0\0\0\0\0\0\0\0\x02\0\xf3\0\x01\0\0\0\0\0\0\0\
+\x34\0\0\0\0\0\0\0\0\0\0\0\x34\0\x20\0\0\0\0\0\0\0\0";
+
+/// The description and the first file, the reads that fail, the status and the line.
+type FileRow = (
+    &'static [u8],
+    &'static [u8],
+    &'static [u64],
+    Status,
+    &'static [u8],
+);
+
+const FILES: [FileRow; 4] = [
+    (
+        TWO_FILES,
+        HEADER,
+        &[],
+        Status::BadImage,
+        b"wwt: image 0: noload\n",
+    ),
+    (
+        TWO_FILES,
+        CUT_HEADER,
+        &[],
+        Status::BadImage,
+        b"wwt: image 0: short\n",
+    ),
+    (
+        BOTH_FLAT,
+        PRINT_A,
+        &[1],
+        Status::ReadFault,
+        b"wwt: cannot read a.elf\n",
+    ),
+    (
+        BOTH_FLAT,
+        PRINT_A,
+        &[2],
+        Status::ReadFault,
+        b"wwt: cannot read b.elf\n",
+    ),
+];
+
 #[test]
 fn files_of_images_are_read_in_order(rt: HostRuntime) -> Result<(), Fail> {
-    // The description and the first file, the reads that fail, the status and the line.
-    let rows: [(&[u8], &[u8], &[u64], Status, &[u8]); 4] = [
-        (
-            TWO_FILES,
-            HEADER,
-            &[],
-            Status::BadImage,
-            b"wwt: image 0: noload\n",
-        ),
-        (
-            TWO_FILES,
-            &HEADER[..51],
-            &[],
-            Status::BadImage,
-            b"wwt: image 0: short\n",
-        ),
-        (
-            BOTH_FLAT,
-            PRINT_A,
-            &[1],
-            Status::ReadFault,
-            b"wwt: cannot read a.elf\n",
-        ),
-        (
-            BOTH_FLAT,
-            PRINT_A,
-            &[2],
-            Status::ReadFault,
-            b"wwt: cannot read b.elf\n",
-        ),
-    ];
-    for (description, first, failing, status, line) in rows {
-        let files = [b"".as_slice(), description, first, PRINT_A];
+    for (description, first, failing, status, line) in FILES {
+        let files = [description, first, PRINT_A];
         is_refused(
             &rt,
-            &run(rt.alloc(), &["check", "m"], files, failing)?,
+            &run_files(rt.alloc(), &["check", "m"], files, failing)?,
             status,
             line,
         );
@@ -399,13 +428,13 @@ fn files_of_images_are_read_in_order(rt: HostRuntime) -> Result<(), Fail> {
 
 #[test]
 fn words_of_an_image_are_printed(rt: HostRuntime) -> Result<(), Fail> {
-    let files = [b"".as_slice(), b"", PRINT_A, b""];
+    let files = [b"".as_slice(), PRINT_A, b""];
     let text = b"0x00000000 0x04100513 addi x10, x0, 65\n0x00000004 0x00100893 addi x17, x0, 1\n\
 0x00000008 0x00000073 ecall\n0x0000000c 0x05d00893 addi x17, x0, 93\n\
 0x00000010 0x00000513 addi x10, x0, 0\n0x00000014 0x00000073 ecall\n";
-    let ran = run(rt.alloc(), &["dis", "a.elf"], files, &[])?;
+    let ran = run_files(rt.alloc(), &["dis", "a.elf"], files, &[])?;
     prints(&rt, &ran, Status::Done, text.as_slice());
-    let ran = run(rt.alloc(), &["dis", "c.elf"], files, &[])?;
+    let ran = run_files(rt.alloc(), &["dis", "c.elf"], files, &[])?;
     is_refused(&rt, &ran, Status::ReadFault, b"wwt: cannot read c.elf\n");
     Ok(())
 }
