@@ -45,16 +45,6 @@ from_the_start machine loaded traced engine machine_is unbroken running start = 
   end = ap (final (wind_tunnel machine)) start;
 }
 
-pub a_round_on : (machine : MachineParts) (loaded : LoadedImages) (traced : Bool) (before after : EngineModel) → IsOnItsWay machine loaded traced before → after.machine ≡ before.machine → IsUnbroken after →
-    final (wind_tunnel before.machine) (world_of after) ≡ final (wind_tunnel before.machine) (world_of before) → IsOnItsWay machine loaded traced after
-a_round_on machine loaded traced before after way same unbroken end = record {
-  machine_is = same ∙ way.machine_is;
-  unbroken = unbroken;
-  numbers = way.numbers;
-  start = way.start;
-  end = subst (λ (m : MachineParts). final (wind_tunnel m) (world_of after) ≡ final (wind_tunnel m) (world_of before)) way.machine_is end ∙ way.end;
-}
-
 pub at_the_end : (machine : MachineParts) (loaded : LoadedImages) (traced : Bool) (before after : EngineModel) → IsOnItsWay machine loaded traced before → world_of after ≡ final (wind_tunnel before.machine) (world_of before) → world_of after ≡ final_of machine loaded traced
 at_the_end machine loaded traced before after way last = last ∙ ap (λ (m : MachineParts). final (wind_tunnel m) (world_of before)) way.machine_is ∙ way.end
 
