@@ -1,7 +1,8 @@
 -- An engine of one node, and what it has come to when this node has run to its end.
-use Rattle.std.proofs.Common.{◌≡◌, ℕ, ◌+◌, ◌<◌, ◌≤◌, ◌⊎◌, List, [], ◌∷◌, length, take, drop, get_or, ◌++◌, false, Option, Some, None, refl, ap, sym, ◌∙◌, subst, inl, inr, arith}
+use Rattle.std.proofs.Common.{◌≡◌, ℕ, ◌+◌, ◌<◌, ◌≤◌, ◌⊎◌, List, [], ◌∷◌, length, take, drop, get_or, ◌++◌, false, Option, Some, None, Result, Ok, Err, IfOk, OnOk, refl, ap, sym, ◌∙◌, subst, inl, inr, arith}
 use Rattle.std.proofs.Math.ListN.{set}
 use Rattle.std.specs.FinMap.{get}
+use Rattle.wt_params.specs.declared.memory.NoMemory.{NoMemory}
 use Rattle.wt_proto.specs.declared.key.Key.{Key}
 use Rattle.wt_proto.specs.declared.message.Msg.{Msg}
 use Rattle.discrete_events.specs.Simulation.{Simulation}
@@ -17,12 +18,14 @@ use Rattle.node.specs.declared.state.NodeState.{NodeState}
 use Rattle.node.specs.React.{wind_tunnel}
 use Rattle.node.specs.Sound.{IsNode}
 use Rattle.node.specs.Laws.{Fits}
+use Rattle.node.specs.State.{events_of}
+use Rattle.std.specs.Prelude.{sum_by}
 use Rattle.quantum.specs.declared.alone.Quanta.{Quanta}
 use Rattle.quantum.specs.Alone.{HasEnded, IsAlone, world_alone}
-use Rattle.quantum.specs.Stations.{StationModel, machine_of}
+use Rattle.quantum.specs.Stations.{StationModel, IsLive, IsUnbroken, machine_of}
 use Rattle.quantum.specs.World.{World}
 use Rattle.engine.specs.Alone.{AreAlone, HaveEnded, RanAlone}
-use Rattle.engine.specs.Engine.{EngineModel, IsRunning, IsStationOf, all_pending, nodes_of, world_of}
+use Rattle.engine.specs.Engine.{EngineModel, IsRunning, IsStationOf, all_pending, events_so_far, nodes_of, world_of}
 use Rattle.engine.specs.Quantum.{IsGood}
 use Rattle.engine.proofs.Going.{few_quanta}
 use Rattle.engine.proofs.Owned.{its, laws}
@@ -62,8 +65,8 @@ module _ (engine : EngineModel) (running : IsRunning engine) (station : StationM
       }
 
   module _ (after : StationModel) (quanta : Quanta) (ran : RanAlone station after (quanta_of engine) quanta) where
-    abbrev now : EngineModel
-    now = with_one engine after quanta
+    abbrev ended_engine : EngineModel
+    ended_engine = with_one engine after quanta
 
     abbrev sim : Simulation NodeState Msg
     sim = wind_tunnel engine.machine
@@ -71,7 +74,7 @@ module _ (engine : EngineModel) (running : IsRunning engine) (station : StationM
     same_machine : machine_of station ≡ engine.machine
     same_machine = (its engine running station member).machine_is
 
-    pub alone_end : world_of now ≡ final sim (world_of engine)
+    pub alone_end : world_of ended_engine ≡ final sim (world_of engine)
     alone_end =
         one_world engine after quanta
         ∙ subst (λ m. world_alone after quanta ≡ final (wind_tunnel m) (world_alone station (quanta_of engine))) same_machine ran.ended.end
@@ -80,18 +83,21 @@ module _ (engine : EngineModel) (running : IsRunning engine) (station : StationM
     ends : IsFinal sim (world_of engine)
     ends = serial_run_ends sim (IsNode engine.machine) (Fits engine.machine) (laws engine running) (world_of engine) running.world
 
-    world_now : IsWorld sim (IsNode engine.machine) (Fits engine.machine) (world_of now)
-    world_now = subst (IsWorld sim (IsNode engine.machine) (Fits engine.machine)) (sym alone_end)
+    world_then : IsWorld sim (IsNode engine.machine) (Fits engine.machine) (world_of ended_engine)
+    world_then = subst (IsWorld sim (IsNode engine.machine) (Fits engine.machine)) (sym alone_end)
         (from_world sim (IsNode engine.machine) (Fits engine.machine) (laws engine running) (world_of engine) (final sim (world_of engine)) running.world ends.counted)
 
-    pub alone_running : IsRunning now
+    events_before : events_so_far engine ≡ 0 + events_of station.node.state
+    events_before = ap (λ (ss : List StationModel). sum_by events_of (nodes_of ss)) only
+
+    pub alone_running : IsRunning ended_engine
     alone_running = record {
       numbers = running.numbers;
       stations = λ s is. each s is;
-      world = world_now;
+      world = world_then;
       between = λ key event is. absurd (ends.none_left key event (subst (λ w. IsIn (key, event) (events_in sim w)) alone_end is));
       fresh = λ node key msg is there from. fresh node key msg is there from;
-      counted = let c = running.counted in let n = ran.ended.counted in omega arith;
+      counted = let c = running.counted in let n = ran.ended.counted in let e = events_before in omega (arith, c, n, e);
     }
       where
         each : (s : StationModel) → IsIn s (after ∷ []) → IsStationOf engine.machine quanta.kept_end s
@@ -131,3 +137,15 @@ ended_alone engine running [] new only quanta ended = absurd ended
 ended_alone engine running (station ∷ []) [] only quanta ended = absurd ended
 ended_alone engine running (station ∷ []) (after ∷ other ∷ rest) only quanta ended = absurd ended
 ended_alone engine running (station ∷ other ∷ rest) new only quanta ended = absurd ended
+
+pub ended_on : (view now : EngineModel) → view ≡ now → IsRunning view → (given new written_to : List StationModel) → given ≡ view.stations → written_to ≡ new → (quanta : Quanta) → HaveEnded given new (quanta_of view) quanta →
+    Ended now (record { machine = view.machine; stations = written_to; kept_end = quanta.kept_end; quanta = quanta.count; broken = false })
+ended_on view now same running given new written_to is written_is quanta ended =
+    subst (λ e. Ended e (record { machine = view.machine; stations = written_to; kept_end = quanta.kept_end; quanta = quanta.count; broken = false })) same
+    (subst (λ ss. Ended view (record { machine = view.machine; stations = ss; kept_end = quanta.kept_end; quanta = quanta.count; broken = false })) (sym written_is)
+    (ended_alone view running given new (sym is) quanta ended))
+
+pub ran_alone : (stations : List StationModel) (old : Quanta) (d after : StationModel) → AreAlone stations old → (result : Result Quanta NoMemory) → IfOk result (HasEnded (get_or stations 0 d) after old) →
+    OnOk result (IsUnbroken (get_or stations 0 d) × IsUnbroken after × IsLive after) → machine_of after ≡ machine_of (get_or stations 0 d) → IfOk result (HaveEnded stations (set stations 0 after) old)
+ran_alone stations old d after alone (Ok new) ended live same = have_ended stations old new d after alone (record { ended = ended; good = record { whole = live.1; live = live.2 }; machine_is = same })
+ran_alone stations old d after alone (Err refused) ended live same = tt
