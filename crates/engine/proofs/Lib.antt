@@ -7,3 +7,4 @@ pub mod Quanta
 pub mod Going
 pub mod StartLemmas
 pub mod HeadLemmas
+pub mod AloneLemmas

@@ -1,4 +1,4 @@
-ghost use Rattle.std.specs.Prelude.{◌≡◌, ◌<◌, ◌≤◌, ◌*◌, true, All, IfOk, OnErr, OnOk};
+ghost use Rattle.std.specs.Prelude.{◌≡◌, ◌<◌, ◌≤◌, ◌*◌, true, All, IfOk, OnErr, OnOk, length};
 ghost use Rattle.discrete_events.specs.Laws.{IsSerialFrom};
 ghost use Rattle.discrete_events.specs.Serial.{final};
 ghost use Rattle.image_loader.specs.Images.{IsFor};
@@ -10,10 +10,10 @@ ghost use Rattle.engine.specs.Engine.{IsRunning, IsStationOf, IsUnbroken, events
 ghost use Rattle.engine.specs.Rounds.{WentRound};
 
 use crate::head::head;
-use crate::stations::{advance, earliest};
+use crate::stations::{advance, earliest, run_alone};
 use event_queue::Steps;
 use image_loader::Loaded;
-use quantum::Station;
+use quantum::{Quanta, Station};
 use std::alloc::Global;
 use std::marker::{Brand, Model};
 use std::sync::ledger::{Blank, Ledger};
@@ -142,6 +142,51 @@ impl Engine {
         self.quanta += 1;
         self.broken = false;
         Ok(Round::More)
+    }
+
+    /// Does quanta as long as there is an event.
+    pub fn run_plain(&mut self) -> Result<(), NoMemory>
+        ensures end { OnOk result (world_of self.new ≡ final (sim_of self.old) (world_of self.old)) }
+        ensures unbroken { OnOk result (IsUnbroken self.old × IsUnbroken self.new) }
+        ensures machine { self.new.machine ≡ self.old.machine }
+        ensures broken { OnErr result (self.new.broken ≡ true) }
+    {
+        if self.stations.len() == 1 {
+            return self.run_alone::<Brand>(Blank::new(1));
+        }
+        loop {
+            match self.round_plain()? {
+                Round::Ended => return Ok(()),
+                Round::More => {}
+            }
+        }
+    }
+
+    /// The same for one node, which has no other to exchange messages with: its quanta are counted, and none is ended.
+    fn run_alone<L: Ledger>(&mut self, blank: Blank) -> Result<(), NoMemory>
+        requires one { length self.old.stations ≡ 1 }
+        requires name { blank.name ≡ L.name }
+        requires parts { blank.parts ≡ L.parts }
+        requires some { 0 < blank.parts }
+        ensures end { OnOk result (world_of self.new ≡ final (sim_of self.old) (world_of self.old)) }
+        ensures unbroken { OnOk result (IsUnbroken self.old × IsUnbroken self.new) }
+        ensures machine { self.new.machine ≡ self.old.machine }
+        ensures broken { OnErr result (self.new.broken ≡ true) }
+    {
+        if self.broken {
+            return Err(NoMemory);
+        }
+        let mut steps = Steps::<L>::new(blank);
+        let so_far = Quanta {
+            kept_end: self.kept_end,
+            count: self.quanta,
+        };
+        self.broken = true;
+        let quanta = run_alone(&mut self.stations, so_far, &mut steps)?;
+        self.kept_end = quanta.kept_end;
+        self.quanta = quanta.count;
+        self.broken = false;
+        Ok(())
     }
 
     /// What the run has come to.

@@ -1,9 +1,10 @@
 ghost use Rattle.std.specs.Prelude.{◌≡◌, ◌≤◌, ◌++◌, All, map, IfOk, OnOk};
 ghost use Rattle.quantum.specs.Stations.{IsUnbroken, machine_of};
+ghost use Rattle.engine.specs.Alone.{AreAlone, HaveEnded};
 ghost use Rattle.engine.specs.Quantum.{AreHandedOut, HaveAdvanced, IsGood, MayDeliver, MayExchange, delivered, earliest_of, ran_to, sooner};
 
 use event_queue::Steps;
-use quantum::{Outs, Station};
+use quantum::{Outs, Quanta, Station};
 use std::alloc::Global;
 use std::sync::ledger::Ledger;
 use wt_params::NoMemory;
@@ -106,4 +107,16 @@ fn deliver<L: Ledger>(
         }
     }
     Ok(())
+}
+
+/// The only station runs to its end, and its quanta are counted.
+pub fn run_alone<L: Ledger>(
+    stations: &mut [Station],
+    quanta: Quanta,
+    steps: &mut Steps<L>,
+) -> Result<Quanta, NoMemory>
+    requires { AreAlone stations.old quanta }
+    ensures { IfOk result (HaveEnded stations.old stations.new quanta) }
+{
+    stations[0].run_alone(quanta, steps)
 }

@@ -92,7 +92,7 @@ module _ (until : ℕ) (before middle : Site) (turn : Turn) (sends : List Stampe
   }
 
   module _ (after : Site) (outs_before outs_after : List Stamped) (steps_after : ℕ) (o : HandsOut middle after sends outs_before outs_after steps_middle steps_after) where
-    new_is : after.node.state ≡ (react machine state h.event).0
+    pub new_is : after.node.state ≡ (react machine state h.event).0
     new_is = ap (λ (n : NodeModel). n.state) o.node ∙ state_is
 
     number_is : middle.node.state.number ≡ state.number
@@ -101,7 +101,7 @@ module _ (until : ℕ) (before middle : Site) (turn : Turn) (sends : List Stampe
     pub machine_is : after.node.machine ≡ machine
     machine_is = ap (λ (n : NodeModel). n.machine) (o.node ∙ h.node)
 
-    queue_is : pending_of after.queue ≡ placed (taken h.event queue) (own_of state.number (react machine state h.event).1)
+    pub queue_is : pending_of after.queue ≡ placed (taken h.event queue) (own_of state.number (react machine state h.event).1)
     queue_is = o.pending ∙ (λ i. placed (h.pending i) (own_of (number_is i) (h.sends i)))
 
     outs_are : outs_after ≡ outs_before ++ others_of state.number (react machine state h.event).1

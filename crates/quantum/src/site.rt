@@ -2,10 +2,12 @@ ghost use Rattle.std.specs.Prelude.{◌≡◌, ℕ, ◌<◌, ◌≤◌, ◌+◌,
 ghost use Rattle.event_queue.specs.Rising.{IsRising};
 ghost use Rattle.image_loader.specs.Images.{IsFor};
 ghost use Rattle.node.specs.Start.{start_node};
+ghost use Rattle.quantum.specs.Alone.{HasEnded, IsAlone};
 ghost use Rattle.quantum.specs.FreeRuns.{IsFree, IsHandedOut, run_to_of};
 ghost use Rattle.quantum.specs.Sites.{IsLookedAt, IsSite, IsTurn, Handles, HandsOut, MayHandOut, before_of, first_time_of, is_message_of, least_time_at, run_up_to};
 ghost use Rattle.quantum.specs.Stations.{station_of};
 
+use crate::alone::Quanta;
 use event_queue::{Queue, Steps};
 use image_loader::Loaded;
 use node::Node;
@@ -185,6 +187,36 @@ impl Site {
             }
         }
         Ok(outs)
+    }
+
+    /// Handles all events of a node that is alone in its machine, and counts the quanta that they begin. Nothing is
+    /// exchanged, so no quantum has to be ended.
+    pub fn run_alone<L: Ledger>(
+        &mut self,
+        alloc: Global,
+        quanta: &mut Quanta,
+        steps: &mut Steps<L>,
+    ) -> Result<(), NoMemory>
+        requires alone { IsAlone (run_up_to quanta.old.kept_end self.old) quanta.old }
+        requires site { IsSite quanta.old.kept_end self.old }
+        ensures ended { OnOk result (HasEnded (run_up_to quanta.old.kept_end self.old) (run_up_to quanta.new.kept_end self.new) quanta.old quanta.new) }
+        ensures site { OnOk result (IsSite quanta.new.kept_end self.new) }
+        ensures rising { OnOk result (IsRising self.new.queue) }
+        ensures machine { self.new.node.machine ≡ self.old.node.machine }
+    {
+        let budget = self.node.machine().budget();
+        let mut outs = StampedList::new(alloc);
+        let mut sends = StampedList::new(alloc);
+        let mut first = self.first_time(steps);
+        while let Some(turn) = self.turn(first, budget) {
+            self.handle(turn, budget, &mut sends, steps)?;
+            let own = self.hand_out(&mut sends, &mut outs, steps)?;
+            quanta.count_event(self.node.machine(), self.node.last());
+            if turn.is_message() || own {
+                first = self.first_time(steps);
+            }
+        }
+        Ok(())
     }
 }
 

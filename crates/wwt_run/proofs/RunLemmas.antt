@@ -38,6 +38,15 @@ pub record IsOnItsWay (machine : MachineParts) (loaded : LoadedImages) (traced :
   pub start : IsWorld (wind_tunnel machine) (IsNode machine) (Fits machine) (start_of machine loaded traced)
   pub end : final (wind_tunnel machine) (world_of engine) ≡ final_of machine loaded traced
 
+pub from_the_start : (machine : MachineParts) (loaded : LoadedImages) (traced : Bool) (engine : EngineModel) → engine.machine ≡ machine → IsUnbroken engine → IsRunning engine → world_of engine ≡ start_of machine loaded traced → IsOnItsWay machine loaded traced engine
+from_the_start machine loaded traced engine machine_is unbroken running start = record {
+  machine_is = machine_is;
+  unbroken = unbroken;
+  numbers = subst IsMachine machine_is running.numbers;
+  start = subst (λ (w : World). IsWorld (wind_tunnel machine) (IsNode machine) (Fits machine) w) start (subst (λ (m : MachineParts). IsWorld (wind_tunnel m) (IsNode m) (Fits m) (world_of engine)) machine_is running.world);
+  end = ap (final (wind_tunnel machine)) start;
+}
+
 pub at_the_end : (machine : MachineParts) (loaded : LoadedImages) (traced : Bool) (before after : EngineModel) → IsOnItsWay machine loaded traced before → world_of after ≡ final (wind_tunnel before.machine) (world_of before) → world_of after ≡ final_of machine loaded traced
 at_the_end machine loaded traced before after way last = last ∙ ap (λ (m : MachineParts). final (wind_tunnel m) (world_of before)) way.machine_is ∙ way.end
 

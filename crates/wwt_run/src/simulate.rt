@@ -4,7 +4,7 @@ ghost use Rattle.wt_report.specs.Stations.{AreStationsOf, MayShowEvents};
 ghost use Rattle.engine.specs.Engine.{IsUnbroken, world_of};
 ghost use Rattle.wwt_run.specs.Jobs.{AreInSerialOrder, final_of};
 
-use engine::{Engine, Round};
+use engine::Engine;
 use image_loader::Loaded;
 use std::alloc::Global;
 use wt_params::{Machine, NoMemory};
@@ -24,10 +24,6 @@ pub fn simulate(
     ensures order { IfOk result (λ engine. AreInSerialOrder machine.now loaded.now traced (world_of engine)) }
 {
     let mut engine = Engine::new(alloc, *machine, loaded, traced)?;
-    loop {
-        match engine.round_plain()? {
-            Round::Ended => return Ok(engine),
-            Round::More => {}
-        }
-    }
+    engine.run_plain()?;
+    Ok(engine)
 }

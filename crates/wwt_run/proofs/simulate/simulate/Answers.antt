@@ -1,19 +1,21 @@
-use Rattle.std.proofs.Common.{subst}
 use Rattle.engine.specs.Engine.{world_of}
-use Rattle.engine.specs.Rounds.{WentRound}
-use Rattle.wwt_run.proofs.RunLemmas.{at_the_end, in_serial_order, may_show}
+use Rattle.wwt_run.proofs.RunLemmas.{at_the_end, from_the_start, in_serial_order, may_show}
 use Rattle.wwt_run.proofs.simulate.simulate.Goals as goal
 
-pub returns-in-Ended-clause-events : goal.returns-in-Ended-clause-events
-returns-in-Ended-clause-events c =
-    let way = c.loop-engine.invariant in
-    may_show c.args.machine.now c.args.loaded.now c.args.traced c.round_plain.new.self way.numbers way.start
-    (at_the_end c.args.machine.now c.args.loaded.now c.args.traced c.loop-engine.engine c.round_plain.new.self way
-    (subst (WentRound c.loop-engine.engine c.round_plain.new.self) c.in-Ended.is c.in_ok-round_plain.ensures.round).last)
+pub returns-clause-world : goal.returns-clause-world
+returns-clause-world c =
+    at_the_end c.args.machine.now c.args.loaded.now c.args.traced c.in_ok-engine.engine c.run_plain.new.self
+    (from_the_start c.args.machine.now c.args.loaded.now c.args.traced c.in_ok-engine.engine c.in_ok-engine.ensures.machine c.in_ok-engine.ensures.unbroken c.in_ok-engine.ensures.running c.in_ok-engine.ensures.start)
+    c.in_ok-run_plain.ensures.end
 
-pub returns-in-Ended-clause-order : goal.returns-in-Ended-clause-order
-returns-in-Ended-clause-order c =
-    let way = c.loop-engine.invariant in
-    in_serial_order c.args.machine.now c.args.loaded.now c.args.traced (world_of c.round_plain.new.self) way.numbers way.start
-    (at_the_end c.args.machine.now c.args.loaded.now c.args.traced c.loop-engine.engine c.round_plain.new.self way
-    (subst (WentRound c.loop-engine.engine c.round_plain.new.self) c.in-Ended.is c.in_ok-round_plain.ensures.round).last)
+pub returns-clause-events : goal.returns-clause-events
+returns-clause-events c =
+    let way = from_the_start c.args.machine.now c.args.loaded.now c.args.traced c.in_ok-engine.engine c.in_ok-engine.ensures.machine c.in_ok-engine.ensures.unbroken c.in_ok-engine.ensures.running c.in_ok-engine.ensures.start in
+    may_show c.args.machine.now c.args.loaded.now c.args.traced c.run_plain.new.self way.numbers way.start
+    (at_the_end c.args.machine.now c.args.loaded.now c.args.traced c.in_ok-engine.engine c.run_plain.new.self way c.in_ok-run_plain.ensures.end)
+
+pub returns-clause-order : goal.returns-clause-order
+returns-clause-order c =
+    let way = from_the_start c.args.machine.now c.args.loaded.now c.args.traced c.in_ok-engine.engine c.in_ok-engine.ensures.machine c.in_ok-engine.ensures.unbroken c.in_ok-engine.ensures.running c.in_ok-engine.ensures.start in
+    in_serial_order c.args.machine.now c.args.loaded.now c.args.traced (world_of c.run_plain.new.self) way.numbers way.start
+    (at_the_end c.args.machine.now c.args.loaded.now c.args.traced c.in_ok-engine.engine c.run_plain.new.self way c.in_ok-run_plain.ensures.end)
