@@ -7,4 +7,4 @@ pub mod Quanta
 pub mod Going
 pub mod StartLemmas
 pub mod HeadLemmas
-pub mod AloneLemmas
+pub mod SoleLemmas

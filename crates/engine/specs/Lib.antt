@@ -2,4 +2,4 @@ pub mod Engine
 pub mod Rounds
 pub mod Quantum
 pub mod Heads
-pub mod Alone
+pub mod Sole

@@ -10,7 +10,7 @@ ghost use Rattle.engine.specs.Engine.{IsRunning, IsStationOf, IsUnbroken, events
 ghost use Rattle.engine.specs.Rounds.{WentRound};
 
 use crate::head::head;
-use crate::stations::{advance, earliest, run_alone};
+use crate::stations::{advance, earliest, run_sole};
 use event_queue::Steps;
 use image_loader::Loaded;
 use quantum::{Quanta, Station};
@@ -152,7 +152,7 @@ impl Engine {
         ensures broken { OnErr result (self.new.broken ≡ true) }
     {
         if self.stations.len() == 1 {
-            return self.run_alone::<Brand>(Blank::new(1));
+            return self.run_sole::<Brand>(Blank::new(1));
         }
         loop {
             match self.round_plain()? {
@@ -163,7 +163,7 @@ impl Engine {
     }
 
     /// The same for one node, which has no other to exchange messages with: its quanta are counted, and none is ended.
-    fn run_alone<L: Ledger>(&mut self, blank: Blank) -> Result<(), NoMemory>
+    fn run_sole<L: Ledger>(&mut self, blank: Blank) -> Result<(), NoMemory>
         requires one { length self.old.stations ≡ 1 }
         requires name { blank.name ≡ L.name }
         requires parts { blank.parts ≡ L.parts }
@@ -182,7 +182,7 @@ impl Engine {
             count: self.quanta,
         };
         self.broken = true;
-        let quanta = run_alone(&mut self.stations, so_far, &mut steps)?;
+        let quanta = run_sole(&mut self.stations, so_far, &mut steps)?;
         self.kept_end = quanta.kept_end;
         self.quanta = quanta.count;
         self.broken = false;

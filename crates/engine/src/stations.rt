@@ -1,6 +1,6 @@
 ghost use Rattle.std.specs.Prelude.{◌≡◌, ◌≤◌, ◌++◌, All, map, IfOk, OnOk};
 ghost use Rattle.quantum.specs.Stations.{IsUnbroken, machine_of};
-ghost use Rattle.engine.specs.Alone.{AreAlone, HaveEnded};
+ghost use Rattle.engine.specs.Sole.{AreSole, HaveEnded};
 ghost use Rattle.engine.specs.Quantum.{AreHandedOut, HaveAdvanced, IsGood, MayDeliver, MayExchange, delivered, earliest_of, ran_to, sooner};
 
 use event_queue::Steps;
@@ -110,13 +110,13 @@ fn deliver<L: Ledger>(
 }
 
 /// The only station runs to its end, and its quanta are counted.
-pub fn run_alone<L: Ledger>(
+pub fn run_sole<L: Ledger>(
     stations: &mut [Station],
     quanta: Quanta,
     steps: &mut Steps<L>,
 ) -> Result<Quanta, NoMemory>
-    requires { AreAlone stations.old quanta }
+    requires { AreSole stations.old quanta }
     ensures { IfOk result (HaveEnded stations.old stations.new quanta) }
 {
-    stations[0].run_alone(quanta, steps)
+    stations[0].run_sole(quanta, steps)
 }

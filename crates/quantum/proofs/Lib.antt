@@ -6,4 +6,4 @@ pub mod HandOut
 pub mod Turns
 pub mod Free
 pub mod Accepted
-pub mod AloneLemmas
+pub mod SoleLemmas

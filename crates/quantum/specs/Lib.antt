@@ -3,4 +3,4 @@ pub mod Outcome
 pub mod Stations
 pub mod FreeRuns
 pub mod Sites
-pub mod Alone
+pub mod Sole

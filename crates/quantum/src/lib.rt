@@ -4,11 +4,11 @@
 //! [`Station::run_to`] handles exactly the node's own events before a time.
 #![tactic(auto)]
 
-mod alone;
+mod quanta;
 mod site;
 mod station;
 
-pub use alone::Quanta;
+pub use quanta::Quanta;
 pub use station::{Outs, Station};
 
 #[cfg(test)]

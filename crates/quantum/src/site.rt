@@ -2,12 +2,12 @@ ghost use Rattle.std.specs.Prelude.{◌≡◌, ℕ, ◌<◌, ◌≤◌, ◌+◌,
 ghost use Rattle.event_queue.specs.Rising.{IsRising};
 ghost use Rattle.image_loader.specs.Images.{IsFor};
 ghost use Rattle.node.specs.Start.{start_node};
-ghost use Rattle.quantum.specs.Alone.{HasEnded, IsAlone};
+ghost use Rattle.quantum.specs.Sole.{HasEnded, IsSole};
 ghost use Rattle.quantum.specs.FreeRuns.{IsFree, IsHandedOut, run_to_of};
 ghost use Rattle.quantum.specs.Sites.{IsLookedAt, IsSite, IsTurn, Handles, HandsOut, MayHandOut, before_of, first_time_of, is_message_of, least_time_at, run_up_to};
 ghost use Rattle.quantum.specs.Stations.{station_of};
 
-use crate::alone::Quanta;
+use crate::quanta::Quanta;
 use event_queue::{Queue, Steps};
 use image_loader::Loaded;
 use node::Node;
@@ -191,13 +191,13 @@ impl Site {
 
     /// Handles all events of a node that is alone in its machine, and counts the quanta that they begin. Nothing is
     /// exchanged, so no quantum has to be ended.
-    pub fn run_alone<L: Ledger>(
+    pub fn run_sole<L: Ledger>(
         &mut self,
         alloc: Global,
         quanta: &mut Quanta,
         steps: &mut Steps<L>,
     ) -> Result<(), NoMemory>
-        requires alone { IsAlone (run_up_to quanta.old.kept_end self.old) quanta.old }
+        requires alone { IsSole (run_up_to quanta.old.kept_end self.old) quanta.old }
         requires site { IsSite quanta.old.kept_end self.old }
         ensures ended { OnOk result (HasEnded (run_up_to quanta.old.kept_end self.old) (run_up_to quanta.new.kept_end self.new) quanta.old quanta.new) }
         ensures site { OnOk result (IsSite quanta.new.kept_end self.new) }

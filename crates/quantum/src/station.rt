@@ -1,11 +1,11 @@
 ghost use Rattle.std.specs.Prelude.{◌≡◌, ◌<◌, ◌≤◌, ◌+◌, true, OnOk, OnErr, IfOk, IfErr};
 ghost use Rattle.std.specs.FinMap.{len};
 ghost use Rattle.image_loader.specs.Images.{IsFor};
-ghost use Rattle.quantum.specs.Alone.{HasEnded, IsAlone};
+ghost use Rattle.quantum.specs.Sole.{HasEnded, IsSole};
 ghost use Rattle.quantum.specs.FreeRuns.{IsFree, IsHandedOut, run_to_of};
 ghost use Rattle.quantum.specs.Stations.{HasNoPast, IsLive, IsUnbroken, MayAccept, accept_of, least_time_of, machine_of, station_at_start, station_of};
 
-use crate::alone::Quanta;
+use crate::quanta::Quanta;
 use crate::site::Site;
 use event_queue::Steps;
 use image_loader::Loaded;
@@ -132,12 +132,12 @@ impl Station {
 
     /// Handles all events of a node that is alone in its machine, and answers the quanta so far with those that they
     /// begin.
-    pub fn run_alone<L: Ledger>(
+    pub fn run_sole<L: Ledger>(
         &mut self,
         quanta: Quanta,
         steps: &mut Steps<L>,
     ) -> Result<Quanta, NoMemory>
-        requires { IsAlone self.old quanta }
+        requires { IsSole self.old quanta }
         ensures ended { IfOk result (HasEnded self.old self.new quanta) }
         ensures live { OnOk result (IsUnbroken self.old × IsUnbroken self.new × IsLive self.new) }
         ensures machine { machine_of self.new ≡ machine_of self.old }
@@ -147,7 +147,7 @@ impl Station {
             return Err(NoMemory);
         }
         let mut quanta = quanta;
-        match self.site.run_alone(self.alloc, &mut quanta, steps) {
+        match self.site.run_sole(self.alloc, &mut quanta, steps) {
             Ok(()) => {
                 self.until = quanta.kept_end;
                 Ok(quanta)

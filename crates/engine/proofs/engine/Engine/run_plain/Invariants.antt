@@ -4,8 +4,8 @@ use Rattle.engine.specs.Engine.{IsUnbroken, events_so_far, sim_of, world_of}
 use Rattle.engine.proofs.engine.Engine.run_plain.Given as goal
 
 -- a ledger of one part, as the blank has
-abbrev pub ghosts-run_alone : goal.ghosts-run_alone
-ghosts-run_alone a = record { name = a.blank.name; parts = a.blank.parts }
+abbrev pub ghosts-run_sole : goal.ghosts-run_sole
+ghosts-run_sole a = record { name = a.blank.name; parts = a.blank.parts }
 
 -- what is left of the run comes to the same end
 abbrev pub invariant-loop : goal.invariant-loop

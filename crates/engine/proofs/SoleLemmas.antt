@@ -20,11 +20,11 @@ use Rattle.node.specs.Sound.{IsNode}
 use Rattle.node.specs.Laws.{Fits}
 use Rattle.node.specs.State.{events_of}
 use Rattle.std.specs.Prelude.{sum_by}
-use Rattle.quantum.specs.declared.alone.Quanta.{Quanta}
-use Rattle.quantum.specs.Alone.{HasEnded, IsAlone, world_alone}
+use Rattle.quantum.specs.declared.quanta.Quanta.{Quanta}
+use Rattle.quantum.specs.Sole.{HasEnded, IsSole, sole_world}
 use Rattle.quantum.specs.Stations.{StationModel, IsLive, IsUnbroken, machine_of}
 use Rattle.quantum.specs.World.{World}
-use Rattle.engine.specs.Alone.{AreAlone, HaveEnded, RanAlone}
+use Rattle.engine.specs.Sole.{AreSole, HaveEnded, RanToTheEnd}
 use Rattle.engine.specs.Engine.{EngineModel, IsRunning, IsStationOf, all_pending, events_so_far, nodes_of, world_of}
 use Rattle.engine.specs.Quantum.{IsGood}
 use Rattle.engine.proofs.Going.{few_quanta}
@@ -41,30 +41,30 @@ quanta_of engine = record { kept_end = engine.kept_end; count = engine.quanta }
 abbrev pub with_one : EngineModel → StationModel → Quanta → EngineModel
 with_one engine station quanta = record { machine = engine.machine; stations = station ∷ []; kept_end = quanta.kept_end; quanta = quanta.count; broken = false }
 
-one_world : (engine : EngineModel) (station : StationModel) (quanta : Quanta) → world_of (with_one engine station quanta) ≡ world_alone station quanta
+one_world : (engine : EngineModel) (station : StationModel) (quanta : Quanta) → world_of (with_one engine station quanta) ≡ sole_world station quanta
 one_world engine station quanta = λ i. record { nodes = station.node.state ∷ []; pending = together_one station.pending i; kept_end = quanta.kept_end; quanta = quanta.count }
 
 module _ (engine : EngineModel) (running : IsRunning engine) (station : StationModel) (only : engine.stations ≡ station ∷ []) where
   member : IsIn station engine.stations
   member = subst (IsIn station) (sym only) (inl refl)
 
-  pub world_is : world_of engine ≡ world_alone station (quanta_of engine)
+  pub world_is : world_of engine ≡ sole_world station (quanta_of engine)
   world_is = (λ i. record { nodes = nodes_of (only i); pending = all_pending (only i); kept_end = engine.kept_end; quanta = engine.quanta }) ∙ one_world engine station (quanta_of engine)
 
   one_node : engine.machine.nodes ≡ 1
   one_node = let n = subst (λ ss. IsNumbered (wind_tunnel engine.machine) 0 (nodes_of ss)) only running.world.numbered in let e : 1 ≡ engine.machine.nodes = n.1 in omega (arith, e)
 
-  pub is_alone : IsAlone station (quanta_of engine)
+  pub is_alone : IsSole station (quanta_of engine)
   is_alone =
       let same = (its engine running station member).machine_is in
       record {
         one = ap (λ m. m.nodes) same ∙ one_node;
-        world = subst (λ m. IsWorld (wind_tunnel m) (IsNode m) (Fits m) (world_alone station (quanta_of engine))) (sym same) (subst (IsWorld (wind_tunnel engine.machine) (IsNode engine.machine) (Fits engine.machine)) world_is running.world);
+        world = subst (λ m. IsWorld (wind_tunnel m) (IsNode m) (Fits m) (sole_world station (quanta_of engine))) (sym same) (subst (IsWorld (wind_tunnel engine.machine) (IsNode engine.machine) (Fits engine.machine)) world_is running.world);
         until = (its engine running station member).ran;
         few = let few = few_quanta engine running in omega arith;
       }
 
-  module _ (after : StationModel) (quanta : Quanta) (ran : RanAlone station after (quanta_of engine) quanta) where
+  module _ (after : StationModel) (quanta : Quanta) (ran : RanToTheEnd station after (quanta_of engine) quanta) where
     abbrev ended_engine : EngineModel
     ended_engine = with_one engine after quanta
 
@@ -77,7 +77,7 @@ module _ (engine : EngineModel) (running : IsRunning engine) (station : StationM
     pub alone_end : world_of ended_engine ≡ final sim (world_of engine)
     alone_end =
         one_world engine after quanta
-        ∙ subst (λ m. world_alone after quanta ≡ final (wind_tunnel m) (world_alone station (quanta_of engine))) same_machine ran.ended.end
+        ∙ subst (λ m. sole_world after quanta ≡ final (wind_tunnel m) (sole_world station (quanta_of engine))) same_machine ran.ended.end
         ∙ ap (final sim) (sym world_is)
 
     ends : IsFinal sim (world_of engine)
@@ -110,17 +110,17 @@ module _ (engine : EngineModel) (running : IsRunning engine) (station : StationM
 
 -- ---- by the list of stations
 
-pub are_alone : (engine : EngineModel) → IsRunning engine → (stations : List StationModel) → engine.stations ≡ stations → length stations ≡ 1 → AreAlone stations (quanta_of engine)
+pub are_alone : (engine : EngineModel) → IsRunning engine → (stations : List StationModel) → engine.stations ≡ stations → length stations ≡ 1 → AreSole stations (quanta_of engine)
 are_alone engine running [] only long = absurd (omega arith)
 are_alone engine running (station ∷ []) only long = is_alone engine running station only
 are_alone engine running (station ∷ other ∷ rest) only long = absurd (omega arith)
 
-pub at_first_place : (stations : List StationModel) (quanta : Quanta) (d : StationModel) → AreAlone stations quanta → (0 < length stations) × IsAlone (get_or stations 0 d) quanta
+pub at_first_place : (stations : List StationModel) (quanta : Quanta) (d : StationModel) → AreSole stations quanta → (0 < length stations) × IsSole (get_or stations 0 d) quanta
 at_first_place [] quanta d alone = absurd alone
 at_first_place (station ∷ []) quanta d alone = (omega arith, alone)
 at_first_place (station ∷ other ∷ rest) quanta d alone = absurd alone
 
-pub have_ended : (stations : List StationModel) (old new : Quanta) (d after : StationModel) → AreAlone stations old → RanAlone (get_or stations 0 d) after old new → HaveEnded stations (set stations 0 after) old new
+pub have_ended : (stations : List StationModel) (old new : Quanta) (d after : StationModel) → AreSole stations old → RanToTheEnd (get_or stations 0 d) after old new → HaveEnded stations (set stations 0 after) old new
 have_ended [] old new d after alone ran = absurd alone
 have_ended (station ∷ []) old new d after alone ran = ran
 have_ended (station ∷ other ∷ rest) old new d after alone ran = absurd alone
@@ -145,7 +145,7 @@ ended_on view now same running given new written_to is written_is quanta ended =
     (subst (λ ss. Ended view (record { machine = view.machine; stations = ss; kept_end = quanta.kept_end; quanta = quanta.count; broken = false })) (sym written_is)
     (ended_alone view running given new (sym is) quanta ended))
 
-pub ran_alone : (stations : List StationModel) (old : Quanta) (d after : StationModel) → AreAlone stations old → (result : Result Quanta NoMemory) → IfOk result (HasEnded (get_or stations 0 d) after old) →
+pub ran_alone : (stations : List StationModel) (old : Quanta) (d after : StationModel) → AreSole stations old → (result : Result Quanta NoMemory) → IfOk result (HasEnded (get_or stations 0 d) after old) →
     OnOk result (IsUnbroken (get_or stations 0 d) × IsUnbroken after × IsLive after) → machine_of after ≡ machine_of (get_or stations 0 d) → IfOk result (HaveEnded stations (set stations 0 after) old)
 ran_alone stations old d after alone (Ok new) ended live same = have_ended stations old new d after alone (record { ended = ended; good = record { whole = live.1; live = live.2 }; machine_is = same })
 ran_alone stations old d after alone (Err refused) ended live same = tt

@@ -8,13 +8,13 @@ use Rattle.node.specs.Laws.{Fits}
 use Rattle.node.specs.React.{wind_tunnel}
 use Rattle.node.specs.Sound.{IsNode}
 use Rattle.node.specs.State.{events_of}
-use Rattle.quantum.specs.declared.alone.Quanta.{Quanta}
+use Rattle.quantum.specs.declared.quanta.Quanta.{Quanta}
 use Rattle.quantum.specs.Stations.{StationModel, machine_of}
 use Rattle.quantum.specs.World.{World}
 
 -- the world of a machine of one node
-abbrev pub world_alone : StationModel → Quanta → World
-world_alone station quanta = record {
+abbrev pub sole_world : StationModel → Quanta → World
+sole_world station quanta = record {
   nodes = station.node.state ∷ [];
   pending = station.pending;
   kept_end = quanta.kept_end;
@@ -30,14 +30,14 @@ quanta_after machine (Some key) quanta =
     else quanta
 
 -- a station of a machine of one node, at the end of its last quantum
-pub record IsAlone (station : StationModel) (quanta : Quanta) : Type 0 where
+pub record IsSole (station : StationModel) (quanta : Quanta) : Type 0 where
   pub one : (machine_of station).nodes ≡ 1
-  pub world : IsWorld (wind_tunnel (machine_of station)) (IsNode (machine_of station)) (Fits (machine_of station)) (world_alone station quanta)
+  pub world : IsWorld (wind_tunnel (machine_of station)) (IsNode (machine_of station)) (Fits (machine_of station)) (sole_world station quanta)
   pub until : station.until ≡ quanta.kept_end
   pub few : quanta.count ≤ 2 ^ 50
 
 -- Such a station has run to the end of the simulation.
 pub record HasEnded (before after : StationModel) (old new : Quanta) : Type 0 where
-  pub end : world_alone after new ≡ final (wind_tunnel (machine_of before)) (world_alone before old)
+  pub end : sole_world after new ≡ final (wind_tunnel (machine_of before)) (sole_world before old)
   pub until : after.until ≡ new.kept_end
   pub counted : new.count + events_of before.node.state ≤ old.count + events_of after.node.state

@@ -1,10 +1,10 @@
 use Rattle.std.proofs.Common.{◌≡◌, sym, ap, ◌∙◌, ◌||◌, None, Option, ℕ, true, false, subst, arith}
 use Rattle.wt_params.specs.declared.parts.MachineParts.{MachineParts}
-use Rattle.quantum.specs.Alone.{quanta_after}
+use Rattle.quantum.specs.Sole.{quanta_after}
 use Rattle.quantum.specs.Sites.{is_message_of, least_below}
 use Rattle.quantum.proofs.Free.{ATurn}
-use Rattle.quantum.proofs.AloneLemmas.{alone_begins, alone_ended, alone_within, due_in_budget, few_so_far, turn_hands_out_alone, turn_is_early, turn_goes_on, turn_is_more_alone, turn_first_stays}
-use Rattle.quantum.proofs.site.Site.run_alone.Goals as goal
+use Rattle.quantum.proofs.SoleLemmas.{alone_begins, alone_ended, alone_within, due_in_budget, few_so_far, turn_hands_out_alone, turn_is_early, turn_goes_on, turn_is_more_alone, turn_first_stays}
+use Rattle.quantum.proofs.site.Site.run_sole.Goals as goal
 
 pub loop-turn-init : goal.loop-turn-init
 loop-turn-init g c = alone_begins c.args.self.now c.first_time-first.result c.new-sends.result c.args.quanta.now c.requires.alone c.requires.site c.first_time-first.ensures.rising c.new-sends.ensures c.first_time-first.ensures.value

@@ -1,5 +1,5 @@
 ghost use Rattle.std.specs.Prelude.{◌≡◌, ◌<◌, ◌^◌, IfSome};
-ghost use Rattle.quantum.specs.Alone.{quanta_after};
+ghost use Rattle.quantum.specs.Sole.{quanta_after};
 
 use wt_params::Machine;
 use wt_proto::Key;

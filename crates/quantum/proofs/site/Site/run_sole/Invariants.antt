@@ -1,7 +1,7 @@
 use Rattle.std.proofs.Common.{◌-◌}
 use Rattle.node.specs.State.{events_of}
-use Rattle.quantum.proofs.AloneLemmas.{IsRunningAlone}
-use Rattle.quantum.proofs.site.Site.run_alone.Given as goal
+use Rattle.quantum.proofs.SoleLemmas.{IsRunningAlone}
+use Rattle.quantum.proofs.site.Site.run_sole.Given as goal
 
 abbrev pub invariant-loop-turn : goal.invariant-loop-turn
 invariant-loop-turn g l = IsRunningAlone l.fn.self l.self l.first l.sends l.fn.quanta l.quanta

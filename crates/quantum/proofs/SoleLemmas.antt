@@ -29,8 +29,8 @@ use Rattle.node.proofs.EventKept.{machines_are_simulations}
 use Rattle.quantum.specs.declared.site.Site.{Site}
 use Rattle.quantum.specs.declared.site.Turn.{Turn}
 use Rattle.quantum.specs.declared.site.Turn.TheVariants as turns
-use Rattle.quantum.specs.declared.alone.Quanta.{Quanta}
-use Rattle.quantum.specs.Alone.{HasEnded, IsAlone, quanta_after, world_alone}
+use Rattle.quantum.specs.declared.quanta.Quanta.{Quanta}
+use Rattle.quantum.specs.Sole.{HasEnded, IsSole, quanta_after, sole_world}
 use Rattle.quantum.specs.Sites.{IsSite, IsFirst, IsTurn, IsLookedAt, Handles, HandsOut, MayHandOut, first_time_of, is_message_of, least_below, own_of, run_up_to}
 use Rattle.quantum.specs.Stations.{IsPast, pending_of}
 use Rattle.quantum.specs.World.{World}
@@ -59,7 +59,7 @@ all_own machine node key one within (send ∷ sends) sent =
     ∙ ap (λ ms. message_under_key send ∷ ms) (all_own machine node key one within sends sent.1)
 
 abbrev pub world_at : Site → Quanta → World
-world_at site quanta = world_alone (run_up_to 0 site) quanta
+world_at site quanta = sole_world (run_up_to 0 site) quanta
 
 abbrev pub IsWorldOf : MachineParts → World → Type 0
 IsWorldOf machine world = IsWorld (wind_tunnel machine) (IsNode machine) (Fits machine) world
@@ -75,7 +75,7 @@ pub record IsRunningAlone (begun now : Site) (first : Option ℕ) (sends : List 
   pub end : final (wind_tunnel begun.node.machine) (world_at now quanta) ≡ final (wind_tunnel begun.node.machine) (world_at begun old)
   pub counted : quanta.count + events_of begun.node.state ≤ old.count + events_of now.node.state
 
-pub alone_begins : (site : Site) (first : Option ℕ) (sends : List Stamped) (quanta : Quanta) → IsAlone (run_up_to quanta.kept_end site) quanta → IsSite quanta.kept_end site → IsRising site.queue → sends ≡ [] → first ≡ first_time_of site.queue →
+pub alone_begins : (site : Site) (first : Option ℕ) (sends : List Stamped) (quanta : Quanta) → IsSole (run_up_to quanta.kept_end site) quanta → IsSite quanta.kept_end site → IsRising site.queue → sends ≡ [] → first ≡ first_time_of site.queue →
     IsRunningAlone site site first sends quanta quanta
 alone_begins site first sends quanta alone is rising no_sends first_is = record {
   machine = refl;
@@ -257,7 +257,7 @@ module _ (before middle after : Site) (turn : Turn) (sends outs_before outs_afte
 
 -- ---- one turn of the loop
 
-module _ (t : ATurn) (old quanta : Quanta) (alone : IsAlone (run_up_to old.kept_end t.begun) old) (is_budget : t.until ≡ t.begun.node.machine.budget) (so_far : IsRunningAlone t.begun t.before t.first t.sends_before old quanta) where
+module _ (t : ATurn) (old quanta : Quanta) (alone : IsSole (run_up_to old.kept_end t.begun) old) (is_budget : t.until ≡ t.begun.node.machine.budget) (so_far : IsRunningAlone t.begun t.before t.first t.sends_before old quanta) where
   until_is : t.until ≡ t.before.node.machine.budget
   until_is = is_budget ∙ ap (λ (m : MachineParts). m.budget) (sym so_far.machine)
 
