@@ -120,10 +120,29 @@ impl Site {
     {
         match turn {
             Turn::Step => self.node.handle_step(sends),
-            Turn::Message => match self.queue.pop(steps) {
-                None => Ok(()),
-                Some(message) => self.node.handle_message(&message, sends),
-            },
+            Turn::Message => self.handle_first(until, sends, steps),
+        }
+    }
+
+    /// Handles the first of the messages, which is the node's least event. A function of its own, so that a step doesn't
+    /// pay for the room that a message takes.
+    #[inline(never)]
+    fn handle_first<L: Ledger>(
+        &mut self,
+        until: u64,
+        sends: &mut StampedList,
+        steps: &mut Steps<L>,
+    ) -> Result<(), NoMemory>
+        requires budget { until ≤ self.old.node.machine.budget }
+        requires site { IsSite until self.old }
+        requires rising { IsRising self.old.queue }
+        requires turn { IsTurn until self.old (Some Turn.Message) }
+        ensures handled { OnOk result (Handles until self.old self.new Turn.Message sends.old sends.new steps.old steps.new) }
+        ensures machine { self.new.node.machine ≡ self.old.node.machine }
+    {
+        match self.queue.pop(steps) {
+            None => Ok(()),
+            Some(message) => self.node.handle_message(&message, sends),
         }
     }
 
@@ -141,10 +160,27 @@ impl Site {
         ensures none_left { OnOk result (sends.new ≡ []) }
         ensures node { self.new.node ≡ self.old.node }
     {
-        let mut own = false;
         if sends.is_empty() {
-            return Ok(own);
+            return Ok(false);
         }
+        self.hand_out_all(sends, outs, steps)
+    }
+
+    /// The same, also where there are none.
+    #[inline(never)]
+    fn hand_out_all<L: Ledger>(
+        &mut self,
+        sends: &mut StampedList,
+        outs: &mut StampedList,
+        steps: &mut Steps<L>,
+    ) -> Result<bool, NoMemory>
+        requires { MayHandOut self.old sends.old }
+        ensures parts { OnOk result (HandsOut self.old self.new sends.old outs.old outs.new steps.old steps.new) }
+        ensures looked { IfOk result (λ looked. IsLookedAt looked self.old self.new steps.old steps.new) }
+        ensures none_left { OnOk result (sends.new ≡ []) }
+        ensures node { self.new.node ≡ self.old.node }
+    {
+        let mut own = false;
         let number = self.node.number();
         while let Some(message) = sends.pop_first() {
             if message.to == number {

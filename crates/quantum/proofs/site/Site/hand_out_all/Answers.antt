@@ -1,6 +1,6 @@
 use Rattle.std.proofs.Common.{sym, subst, refl, true}
 use Rattle.quantum.proofs.HandOut.{IsHandingOut, is_new, handed_own}
-use Rattle.quantum.proofs.site.Site.hand_out.Goals as goal
+use Rattle.quantum.proofs.site.Site.hand_out_all.Goals as goal
 
 pub insert-requires : goal.insert-requires
 insert-requires g c =

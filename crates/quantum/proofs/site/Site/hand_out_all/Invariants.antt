@@ -1,6 +1,6 @@
 use Rattle.std.proofs.Common.{length}
 use Rattle.quantum.proofs.HandOut.{IsHandingOut}
-use Rattle.quantum.proofs.site.Site.hand_out.Given as goal
+use Rattle.quantum.proofs.site.Site.hand_out_all.Given as goal
 
 abbrev pub invariant-loop-message : goal.invariant-loop-message
 invariant-loop-message g l =
