@@ -11,7 +11,7 @@ use Rattle.wwt_words.specs.declared.command.Command.TheVariants as commands
 use Rattle.wwt_words.specs.Numbers.{is_numeral, number_of, option_number_of}
 use Rattle.wwt_words.specs.Declarations.{run_command, check_command, load_command, dis_command, flat_command, is_read, rows_read}
 use Rattle.wwt_words.specs.Words.{is_set, workers_of, budget_of, run_of, check_of, load_of, dis_of, flat_of, read_by, command_named, command_of}
-use Rattle.wwt_case.specs.Case.{IsBudget, HasRanges}
+use Rattle.wwt_case.specs.Case.{HasRanges}
 
 -- what is read, if anything is, is in its ranges
 abbrev IsGood : Option Command → Type 0

@@ -1,4 +1,4 @@
-use Rattle.std.proofs.Common.{refl, Ok}
+use Rattle.std.proofs.Common.{refl}
 use Rattle.wwt_case.specs.Case.{check_of}
 use Rattle.wwt_case.proofs.ReadLemmas.{reads_and, reads_ended}
 use Rattle.wwt_case.proofs.case.prepare_check.Goals as goal

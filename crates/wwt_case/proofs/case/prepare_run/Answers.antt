@@ -1,4 +1,4 @@
-use Rattle.std.proofs.Common.{◌≡◌, ap, sym, Ok}
+use Rattle.std.proofs.Common.{ap, sym, Ok}
 use Rattle.wwt_case.specs.declared.job.Job.TheVariants.{Run}
 use Rattle.wwt_case.specs.Case.{run_of}
 use Rattle.wwt_case.proofs.ReadLemmas.{reads_and, reads_ended}

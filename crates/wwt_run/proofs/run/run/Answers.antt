@@ -1,4 +1,4 @@
-use Rattle.std.proofs.Common.{◌≡◌, ap, sym, ◌∙◌, subst}
+use Rattle.std.proofs.Common.{sym, ◌∙◌, subst}
 use Rattle.wwt_run.specs.Jobs.{output_of_run}
 use Rattle.std.specs.Prelude.{All}
 use Rattle.engine.specs.Engine.{IsStationOf}

@@ -1,6 +1,5 @@
-use Rattle.std.proofs.Common.{◌≡◌, Bool, cond, ap, sym, ◌∙◌}
+use Rattle.std.proofs.Common.{Bool, cond, ap, sym, ◌∙◌}
 use Rattle.std.proofs.lemmas.List.Folds.{list_all-map}
-use Rattle.node.specs.declared.state.NodeState.{NodeState}
 use Rattle.node.specs.State.{exits_well}
 use Rattle.quantum.specs.Stations.{StationModel}
 use Rattle.engine.specs.Engine.{nodes_of}
