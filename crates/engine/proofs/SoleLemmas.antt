@@ -1,5 +1,5 @@
 -- An engine of one node, and what it has come to when this node has run to its end.
-use Rattle.std.proofs.Common.{◌≡◌, ℕ, ◌+◌, ◌<◌, ◌≤◌, ◌⊎◌, List, [], ◌∷◌, length, take, drop, get_or, ◌++◌, false, Option, Some, None, Result, Ok, Err, IfOk, OnOk, refl, ap, sym, ◌∙◌, subst, inl, inr, arith}
+use Rattle.std.proofs.Common.{◌≡◌, ◌+◌, ◌<◌, List, [], ◌∷◌, length, get_or, false, Some, Result, Ok, Err, IfOk, OnOk, refl, ap, sym, ◌∙◌, subst, inl, inr, arith}
 use Rattle.std.proofs.Math.ListN.{set}
 use Rattle.std.specs.FinMap.{get}
 use Rattle.wt_params.specs.declared.memory.NoMemory.{NoMemory}
@@ -23,10 +23,8 @@ use Rattle.std.specs.Prelude.{sum_by}
 use Rattle.quantum.specs.declared.quanta.Quanta.{Quanta}
 use Rattle.quantum.specs.Sole.{HasEnded, IsSole, sole_world}
 use Rattle.quantum.specs.Stations.{StationModel, IsLive, IsUnbroken, machine_of}
-use Rattle.quantum.specs.World.{World}
 use Rattle.engine.specs.Sole.{AreSole, HaveEnded, RanToTheEnd}
 use Rattle.engine.specs.Engine.{EngineModel, IsRunning, IsStationOf, all_pending, events_so_far, nodes_of, world_of}
-use Rattle.engine.specs.Quantum.{IsGood}
 use Rattle.engine.proofs.Going.{few_quanta}
 use Rattle.engine.proofs.Owned.{its, laws}
 

@@ -1,5 +1,5 @@
 -- A node that is alone in its machine: each of its events is a step of the serial run.
-use Rattle.std.proofs.Common.{◌≡◌, ℕ, suc, ◌+◌, ◌<◌, ◌≤◌, ◌||◌, ◌==◌, Bool, true, false, cond, ◌^◌, List, [], ◌∷◌, ◌++◌, map, min, Option, Some, None, ◌*◌, refl, ap, sym, ◌∙◌, subst, inl, eqb-true, eq-eqb, arith}
+use Rattle.std.proofs.Common.{◌≡◌, ℕ, suc, ◌+◌, ◌<◌, ◌≤◌, ◌||◌, ◌==◌, Bool, true, false, cond, ◌^◌, List, [], ◌∷◌, ◌++◌, map, min, Option, Some, None, ◌*◌, refl, ap, sym, ◌∙◌, subst, inl, eq-eqb, arith}
 use Rattle.std.proofs.lemmas.List.{append-nil}
 use Rattle.std.proofs.lemmas.Bool.Decides.{nat_tests}
 use Rattle.std.specs.Prelude.{flat_map, nat_le, IfSome}
@@ -13,7 +13,7 @@ use Rattle.event_queue.specs.Rising.{IsRising}
 use Rattle.discrete_events.specs.Simulation.{Simulation, Event, Step, Arrival, Message}
 use Rattle.discrete_events.specs.World.{World as WorldOf, events_below, events_in, least}
 use Rattle.discrete_events.specs.Serial.{placed, taken, node_after, sent_by, serial_step, final}
-use Rattle.discrete_events.specs.Laws.{IsIn, IsAfter, IsSent, IsSimulation, IsWorld, Reacts}
+use Rattle.discrete_events.specs.Laws.{IsAfter, IsSent, IsSimulation, IsWorld, Reacts}
 use Rattle.discrete_events.proofs.Keys.{less_time}
 use Rattle.discrete_events.proofs.Queues.{Queue}
 use Rattle.discrete_events.proofs.Events.{counts_time, event_to, least_in}
@@ -21,7 +21,7 @@ use Rattle.discrete_events.proofs.FreeRuns.{counts_and_is}
 use Rattle.discrete_events.proofs.SerialRun.{serial-zero, serial-suc, serial_rests, step_of_least, world_stepped, stepped_handled, final_has_none}
 use Rattle.discrete_events.proofs.Whole.{joined, serial_run_ends}
 use Rattle.node.specs.declared.state.NodeState.{NodeState}
-use Rattle.node.specs.Laws.{Fits, NodeModel}
+use Rattle.node.specs.Laws.{Fits}
 use Rattle.node.specs.React.{react, message_under_key, wind_tunnel}
 use Rattle.node.specs.Sound.{IsNode}
 use Rattle.node.specs.State.{events_of, next_key}

@@ -1,11 +1,11 @@
 -- A run of the engine from the start, and what it comes to.
-use Rattle.std.proofs.Common.{◌≡◌, ℕ, suc, zero, ◌+◌, ◌*◌, ◌<◌, Bool, Option, Result, Ok, Err, List, [], ◌∷◌, length, map, inl, inr, refl, ap, sym, ◌∙◌, subst, arith}
+use Rattle.std.proofs.Common.{◌≡◌, ℕ, suc, zero, ◌+◌, ◌*◌, ◌<◌, Bool, Option, Result, Ok, Err, List, [], ◌∷◌, length, map, inl, inr, refl, ap, ◌∙◌, subst, arith}
 use Rattle.std.specs.Prelude.{All, slice_index_or}
 use Rattle.wt_params.specs.declared.parts.MachineParts.{MachineParts}
 use Rattle.wt_params.specs.Machine.{IsMachine}
 use Rattle.image_loader.specs.Images.{LoadedImages}
 use Rattle.discrete_events.specs.Laws.{IsIn, IsNumbered, IsWorld}
-use Rattle.discrete_events.specs.Serial.{serial, final}
+use Rattle.discrete_events.specs.Serial.{final}
 use Rattle.node.specs.declared.state.NodeState.{NodeState}
 use Rattle.node.specs.Laws.{Fits}
 use Rattle.node.specs.React.{wind_tunnel}
@@ -15,7 +15,7 @@ use Rattle.wt_stats.specs.declared.head.Head.{Head}
 use Rattle.wt_trace.specs.EventLine.{RecordFits}
 use Rattle.wt_trace.specs.Merged.{merge_of}
 use Rattle.quantum.specs.Outcome.{head_of, outcome_of}
-use Rattle.quantum.specs.Stations.{StationModel, machine_of}
+use Rattle.quantum.specs.Stations.{StationModel}
 use Rattle.quantum.specs.World.{World, start_of}
 use Rattle.engine.specs.Engine.{EngineModel, IsRunning, IsStationOf, IsUnbroken, nodes_of, world_of}
 use Rattle.wt_report.specs.declared.options.Options.{Options}
@@ -26,7 +26,6 @@ use Rattle.wt_outside.specs.Growth.{Grows}
 use Rattle.wt_report.specs.Stations as places
 use Rattle.wt_report.proofs.TraceLaws.{logs_fit}
 use Rattle.wt_report.proofs.TraceOrder.{trace_is_serial}
-use Rattle.wwt_run.specs.declared.status.Status.{Status}
 use Rattle.wwt_run.specs.Jobs.{AreInSerialOrder, final_of, output_of_run, status_of_run}
 use Rattle.wwt_run.specs.Status.{status_after_of}
 

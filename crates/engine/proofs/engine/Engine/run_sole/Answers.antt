@@ -3,7 +3,7 @@ use Rattle.quantum.specs.Stations.{StationModel}
 use Rattle.engine.specs.Sole.{AreSole}
 use Rattle.engine.specs.Engine.{EngineModel}
 use Rattle.engine.proofs.Going.{written}
-use Rattle.engine.proofs.SoleLemmas.{are_alone, ended_on, quanta_of}
+use Rattle.engine.proofs.SoleLemmas.{are_alone, ended_on}
 use Rattle.engine.proofs.engine.Engine.run_sole.Goals as goal
 
 pub run_sole-requires : goal.run_sole-requires

@@ -1,4 +1,4 @@
-use Rattle.std.proofs.Common.{◌≡◌, sym, ap, ◌∙◌, ◌||◌, None, Option, ℕ, true, false, subst, arith}
+use Rattle.std.proofs.Common.{◌≡◌, sym, ap, ◌∙◌, ◌||◌, None, ℕ, false, subst, arith}
 use Rattle.wt_params.specs.declared.parts.MachineParts.{MachineParts}
 use Rattle.quantum.specs.Sole.{quanta_after}
 use Rattle.quantum.specs.Sites.{is_message_of, least_below}
