@@ -16,6 +16,7 @@ use wt_trace::{Deed, Record, What};
 impl NodeState {
     /// Handles the processor's next step.
     #[tactic(auto, unfolding(crate::specs::React::react_to_step))]
+    #[inline(always)]
     pub fn handle_step(
         &mut self,
         alloc: Global,

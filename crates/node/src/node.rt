@@ -95,6 +95,7 @@ impl Node {
     }
 
     /// Does the processor's next step, and adds the messages that it sends to `out`.
+    #[inline(always)]
     pub fn handle_step(&mut self, out: &mut StampedList) -> Result<(), NoMemory>
         requires due { MayHandle self.old (next_key self.old.machine self.old.state) Step }
         ensures node { OnOk result (self.new ≡ record self.old { state = (react self.old.machine self.old.state Step).0 }) }

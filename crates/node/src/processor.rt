@@ -20,6 +20,7 @@ impl NodeState {
     }
 
     /// Does the word that was fetched, or stops where none could be.
+    #[inline(always)]
     pub fn step(
         &mut self,
         machine: &Machine,
@@ -42,6 +43,7 @@ impl NodeState {
 
     /// Does the instruction of a word.
     #[tactic(auto, unfolding(crate::specs::Processor::execute_of))]
+    #[inline(always)]
     fn execute(
         &mut self,
         machine: &Machine,

@@ -104,6 +104,7 @@ impl Site {
     }
 
     /// Handles the node's least event, and adds the messages that it sends to `sends`.
+    #[inline(always)]
     fn handle<L: Ledger>(
         &mut self,
         turn: Turn,

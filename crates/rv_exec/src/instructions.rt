@@ -13,6 +13,7 @@ use wt_params::CostParts;
 /// Does to the registers what an instruction at `pc` does, and answers what is to be done beside. Registers
 /// change only with [`Effect::Next`].
 #[tactic(auto, unfolding(crate::specs::Meaning::meaning_of))]
+#[inline(always)]
 pub fn execute(regs: &mut Regs, pc: u32, instr: &Instr, costs: &CostParts) -> Effect
     requires { IsWellFormed instr.now }
     ensures meaning { (regs.new, result) ≡ meaning_of regs.old pc instr.now costs.now }
