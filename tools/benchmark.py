@@ -31,6 +31,7 @@ import tempfile
 import time
 
 RUNS = 50
+PIPES = {"stdout": subprocess.PIPE, "stderr": subprocess.DEVNULL}
 
 
 def register_op(funct3, funct7=0):
@@ -115,7 +116,7 @@ class Case:
                 file.write(content)
         with open(f"{room}/given", "rb") as given:
             began = time.perf_counter()
-            with subprocess.Popen([wwt, *self.words], stdin=given, stdout=subprocess.PIPE, cwd=room) as ran:
+            with subprocess.Popen([wwt, *self.words], stdin=given, cwd=room, **PIPES) as ran:
                 report = ran.stdout.read().decode()
                 _, status, used = os.wait4(ran.pid, 0)
                 took = time.perf_counter() - began
