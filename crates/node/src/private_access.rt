@@ -15,6 +15,7 @@ use wt_trace::Deed;
 impl NodeState {
     /// A load from private memory, or from shared memory where the address isn't private.
     #[tactic(auto, unfolding(crate::specs::PrivateAccess::load_from))]
+    #[inline(always)]
     pub fn load(
         &mut self,
         machine: &Machine,
@@ -41,6 +42,7 @@ impl NodeState {
 
     /// A store to private memory, or to shared memory where the address isn't private.
     #[tactic(auto, unfolding(crate::specs::PrivateAccess::store_to))]
+    #[inline(always)]
     pub fn store(
         &mut self,
         machine: &Machine,
