@@ -72,16 +72,21 @@ compare() {
     echo "same output, $size bytes, after $(number "$1" steps total) instructions and $(number "$1" traps total) traps"
 }
 
+# Runs wwt with the words from $2 on, in the folder of temporary files, with its report into $1.report there, and says how
+# it ended where that isn't well.
+simulate() {
+    local status
+    (cd "$room" && timeout 60 "$wwt" "${@:2}" >"$1.report")
+    status=$?
+    [ "$status" = 0 ] && return
+    echo "FAILED, wwt ended by the status $status: $(grep '^node ' "$room/$1.report")"
+    return 1
+}
+
 # Runs the machine $1.json, with its images in the folder of temporary files, and says how that went.
 run_machine() {
-    local status
     cp "$top/examples/$1.json" "$room" || return 1
-    (cd "$room" && timeout 60 "$wwt" run "$1.json" >"$1.report")
-    status=$?
-    if [ "$status" != 0 ]; then
-        echo "FAILED, wwt ended by the status $status: $(grep '^node ' "$room/$1.report")"
-        return 1
-    fi
+    simulate "$1" run "$1.json" || return 1
     compare "$1" "$top/examples/$2.txt"
 }
 
@@ -99,12 +104,7 @@ check() {
     timeout 60 "$room/$1.host" </dev/null >"$room/$1.text"
     status=$?
     [ "$status" = 0 ] || { echo "FAILED, built for this machine it ended by the status $status"; return 1; }
-    timeout 60 "$wwt" flat <"$room/$1.bin" >"$room/$1.report"
-    status=$?
-    if [ "$status" != 0 ]; then
-        echo "FAILED, wwt ended by the status $status: $(grep '^node 0 ' "$room/$1.report")"
-        return 1
-    fi
+    simulate "$1" flat <"$room/$1.bin" || return 1
     compare "$1" "$room/$1.text"
 }
 
