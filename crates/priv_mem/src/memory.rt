@@ -1,5 +1,5 @@
-ghost use Rattle.std.specs.Prelude.{◌≡◌, ℕ, ◌+◌, ◌^◌, ◌<◌, ◌≤◌, not, List, length, replicate, IfOk, IfErr, OnErr};
-ghost use Rattle.priv_mem.specs.Memory.{IsWidth, is_misaligned, little_endian, low_bytes, access_of, load_of, store_of, fill_of};
+ghost use Rattle.std.specs.Prelude.{◌≡◌, ℕ, ◌+◌, ◌^◌, ◌<◌, ◌≤◌, List, length, replicate, IfOk, IfErr, OnErr};
+ghost use Rattle.priv_mem.specs.Memory.{IsWidth, little_endian, low_bytes, access_of, load_of, store_of, fill_of};
 
 use crate::fault::MemFault;
 use std::alloc::Global;
@@ -87,7 +87,7 @@ fn first_byte(size: usize, address: u32, width: u32) -> Result<usize, MemFault>
     ensures place { result ≡ access_of size address width }
     ensures inside { IfOk result (λ start. start + width ≤ size) }
 {
-    if !is_aligned(address, width) {
+    if address % width != 0 {
         return Err(MemFault::Misaligned);
     }
     let start = address as usize;
@@ -95,19 +95,6 @@ fn first_byte(size: usize, address: u32, width: u32) -> Result<usize, MemFault>
         return Err(MemFault::Outside);
     }
     Ok(start)
-}
-
-/// Whether an address is a multiple of the width. Each width has a test of its own, for a division by a number that is
-/// known only as the program runs takes longer than the access.
-fn is_aligned(address: u32, width: u32) -> bool
-    requires { IsWidth width }
-    ensures { result ≡ not (is_misaligned address width) }
-{
-    match width {
-        1 => true,
-        2 => address % 2 == 0,
-        _ => address % 4 == 0,
-    }
 }
 
 /// The number that 1, 2 or 4 bytes stand for, the lowest first.
