@@ -36,7 +36,10 @@ impl NodeState {
                 Ok(self.load_into(rd, widen(op, number), address, ready))
             }
             Err(MemFault::Misaligned) => Ok(self.stop(Cause::Misaligned { address })),
-            Err(MemFault::Outside) => self.shared_load(machine, time, op, rd, address, sends),
+            Err(MemFault::Outside) => {
+                let deed = self.shared_load(machine, time, op, rd, address, sends)?;
+                Ok(deed)
+            }
         }
     }
 
@@ -62,7 +65,10 @@ impl NodeState {
                 Ok(self.store_at(address, store_width(op), stored(op, value), ready))
             }
             Err(MemFault::Misaligned) => Ok(self.stop(Cause::Misaligned { address })),
-            Err(MemFault::Outside) => self.shared_store(machine, time, op, address, value, sends),
+            Err(MemFault::Outside) => {
+                let deed = self.shared_store(machine, time, op, address, value, sends)?;
+                Ok(deed)
+            }
         }
     }
 }

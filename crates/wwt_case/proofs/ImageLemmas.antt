@@ -6,7 +6,7 @@ use Rattle.machine_json.specs.declared.description.ImageSpec.{ImageSpec}
 use Rattle.machine_json.specs.declared.description.ImageSpec.TheVariants.{File}
 use Rattle.wt_outside.specs.Files.{Files}
 use Rattle.wwt_case.specs.declared.refusal.Refusal.{Refusal}
-use Rattle.wwt_case.specs.declared.refusal.Refusal.TheVariants.{Memory}
+use Rattle.wwt_case.specs.declared.refusal.Refusal.TheVariants.{NoMemory}
 use Rattle.wwt_case.specs.Programs.{image_case, image_names, file_image, images_from, names_from}
 use Rattle.wwt_case.specs.Reading.{Store, Reads}
 use Rattle.wwt_case.proofs.ReadLemmas.{reads_then, reads_stopped, reads_nothing, reads_memory}
@@ -68,10 +68,10 @@ refused_image all found number entry store refusal some at first =
 
 -- an image for which there was no memory
 pub image_unkept : {S : Type 0} (all : List ImageSpec) (found : List Image) (number : ℕ) (entry : ImageSpec) (image : Image) (files : Option Files) (faults : S → ℕ) (asked : S → List ℕ → S → Type 0) (s0 s1 : S) (refusal : Refusal)
-    → 1 ≤ length all → entry ≡ get_or all 0 entry → refusal ≡ Memory
+    → 1 ≤ length all → entry ≡ get_or all 0 entry → refusal ≡ NoMemory
     → Reads (image_case number entry) (λ _. image_names entry) (record { files = files; faults = faults; asked = asked; before = s0; now = s1 }) (Ok image)
     → Reads (images_from found number all) (names_from number all) (record { files = files; faults = faults; asked = asked; before = s0; now = s1 }) (Err refusal)
 image_unkept all found number entry image files faults asked s0 s1 refusal some at is first =
     subst (λ (r : Refusal). Reads (images_from found number all) (names_from number all) (record { files = files; faults = faults; asked = asked; before = s0; now = s1 }) (Err r)) (sym is)
-    (next_image all found (found ++ image ∷ []) number entry image files files faults asked s0 s1 s1 (Err Memory) some at refl refl first
+    (next_image all found (found ++ image ∷ []) number entry image files files faults asked s0 s1 s1 (Err NoMemory) some at refl refl first
     (reads_memory _ _ files faults asked s1))

@@ -9,7 +9,7 @@ use Rattle.wt_outside.proofs.FaultLemmas.{not_both, stood_later, rose_later}
 use Rattle.std.proofs.lemmas.List.{append-nil}
 use Rattle.std.proofs.lemmas.List.Elements.{Contains-append_left, Contains-append_right}
 use Rattle.wwt_case.specs.declared.refusal.Refusal.{Refusal}
-use Rattle.wwt_case.specs.declared.refusal.Refusal.TheVariants.{Read, Memory}
+use Rattle.wwt_case.specs.declared.refusal.Refusal.TheVariants.{Read, NoMemory}
 use Rattle.wwt_case.specs.declared.refusal.FileKind.{FileKind}
 use Rattle.wwt_case.specs.Files.{file_of, bytes_of, and_then, names_then}
 use Rattle.wwt_case.specs.Reading.{Answers, Store, Asks, IsThrough, Reads}
@@ -87,7 +87,7 @@ module _ {S A B : Type 0} (wanted : Files → Result A Refusal) (names : Files �
       record {
         found = λ given told. subst (λ (t : Result B Refusal). IfOk result (λ v. t ≡ Ok v)) (sym (both given (first.found given told))) (second.found given told);
         refused = λ given told stood.
-            subst (λ (t : Result B Refusal). IfErr result (λ refusal. (refusal ≡ Memory) ⊎ (t ≡ Err refusal))) (sym (both given (first.found given told)))
+            subst (λ (t : Result B Refusal). IfErr result (λ refusal. (refusal ≡ NoMemory) ⊎ (t ≡ Err refusal))) (sym (both given (first.found given told)))
             (second.refused given told (stood_later (faults s0) (faults s1) (faults s2) stood first.later));
         named = λ given name told same.
             Contains-append_right (names given) _ name
@@ -209,7 +209,7 @@ reads_ended {S} {A} {B} wanted names next store refusal first =
     (reads_stopped {A = A} {B = B} wanted names (λ a _. next a) (λ _ _. []) store refusal first)
 
 -- Want of memory may come in place of any answer.
-pub reads_memory : {S A : Type 0} (wanted : Files → Result A Refusal) (names : Files → List (List ℕ)) (files : Option Files) (faults : S → ℕ) (asked : S → List ℕ → S → Type 0) (s : S) → Reads {A = A} wanted names (record { files = files; faults = faults; asked = asked; before = s; now = s }) (Err Memory)
+pub reads_memory : {S A : Type 0} (wanted : Files → Result A Refusal) (names : Files → List (List ℕ)) (files : Option Files) (faults : S → ℕ) (asked : S → List ℕ → S → Type 0) (s : S) → Reads {A = A} wanted names (record { files = files; faults = faults; asked = asked; before = s; now = s }) (Err NoMemory)
 reads_memory wanted names files faults asked s = record {
   found = λ given told. tt;
   refused = λ given told stood. inl refl;

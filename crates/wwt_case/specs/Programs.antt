@@ -14,7 +14,7 @@ use Rattle.machine_json.specs.declared.description.ImageSpec.{ImageSpec}
 use Rattle.machine_json.specs.declared.description.ImageSpec.TheVariants.{Bytes, File}
 use Rattle.wt_outside.specs.Files.{Files}
 use Rattle.wwt_case.specs.declared.refusal.Refusal.{Refusal}
-use Rattle.wwt_case.specs.declared.refusal.Refusal.TheVariants.{Image as RefusedImage, Memory}
+use Rattle.wwt_case.specs.declared.refusal.Refusal.TheVariants.{Image as RefusedImage, NoMemory}
 use Rattle.wwt_case.specs.declared.refusal.ImageRefusal.TheVariants.{Elf, Outside, Entry}
 use Rattle.wwt_case.specs.declared.refusal.FileKind.TheVariants as kinds
 use Rattle.wwt_case.specs.Files.{file_of, and_then, names_then}
@@ -59,7 +59,7 @@ names_from number (entry ∷ entries) files =
 abbrev pub refused_load : LoadFault → Refusal
 refused_load (faults.Outside number address) = RefusedImage number (Outside address)
 refused_load (faults.BadEntry number entry) = RefusedImage number (Entry entry)
-refused_load faults.NoMemory = Memory
+refused_load faults.NoMemory = NoMemory
 
 abbrev pub loaded_or : LoadedImages → Option LoadFault → Result LoadedImages Refusal
 loaded_or loaded None = Ok loaded

@@ -3,13 +3,16 @@ use Rattle.std.specs.Prelude.{◌≡◌, ◌≢◌, ⊤, ℕ, ◌≤◌, ◌⊎�
 use Rattle.wt_outside.specs.Faults.{Rose, Stood}
 use Rattle.wt_outside.specs.Asked.{AreAsked}
 use Rattle.wt_outside.specs.Files.{Files, IsMissing}
+use Rattle.elf_image.specs.declared.fault.ImageFault.TheVariants as files
+use Rattle.machine_json.specs.declared.fault.MachineFault.TheVariants as machines
+use Rattle.wwt_case.specs.declared.refusal.ImageRefusal.TheVariants.{Elf}
 use Rattle.wwt_case.specs.declared.refusal.Refusal.{Refusal}
-use Rattle.wwt_case.specs.declared.refusal.Refusal.TheVariants.{Usage, Read, Write, Memory}
+use Rattle.wwt_case.specs.declared.refusal.Refusal.TheVariants.{Usage, Read, Machine, Image, Write, NoMemory}
 
 -- What is answered is what is called for, or want of memory.
 abbrev pub Answers : {A : Type 0} → Result A Refusal → Result A Refusal → Type 0
 Answers wanted (Ok value) = wanted ≡ Ok value
-Answers wanted (Err refusal) = (refusal ≡ Memory) ⊎ (wanted ≡ Err refusal)
+Answers wanted (Err refusal) = (refusal ≡ NoMemory) ⊎ (wanted ≡ Err refusal)
 
 -- A store before and after a call: its files, and what it counts as a fault and as a read of a name.
 pub record Store (S : Type 0) : Type 1 where
@@ -34,24 +37,30 @@ pub record Asks {S : Type 0} (names : Files → List (List ℕ)) (store : Store 
 -- a call came to its end: to a value, or where no fault rose to a refusal other than want of memory
 abbrev pub IsThrough : {S A : Type 0} → Store S → Result A Refusal → Type 0
 IsThrough store (Ok value) = ⊤
-IsThrough store (Err refusal) = IsSound store × (refusal ≢ Memory)
+IsThrough store (Err refusal) = IsSound store × (refusal ≢ NoMemory)
 
 -- What is answered is what the told files call for, or want of memory. A file can't be read only where the told files
 -- lack its name, or where a fault rose. Each name that is listed is read once, in order, and none after a refusal.
 pub record Reads {S A : Type 0} (wanted : Files → Result A Refusal) (names : Files → List (List ℕ)) (store : Store S) (result : Result A Refusal) : Type 0 where
   pub found : (files : Files) → store.files ≡ Some files → IfOk result (λ value. wanted files ≡ Ok value)
-  pub refused : (files : Files) → store.files ≡ Some files → IsSound store → IfErr result (λ refusal. (refusal ≡ Memory) ⊎ (wanted files ≡ Err refusal))
+  pub refused : (files : Files) → store.files ≡ Some files → IsSound store → IfErr result (λ refusal. (refusal ≡ NoMemory) ⊎ (wanted files ≡ Err refusal))
   pub named : (files : Files) (name : List ℕ) → store.files ≡ Some files → result ≡ Err (Read name) → Contains (names files) name
   pub once : Asks names store (IsThrough store result)
   pub unread : (name : List ℕ) → result ≡ Err (Read name) → Rose (store.faults store.before) (store.faults store.now) ⊎ IsMissing store.files name
   pub steady : ((name : List ℕ) → result ≢ Err (Read name)) → store.faults store.now ≡ store.faults store.before
   pub later : store.faults store.before ≤ store.faults store.now
 
+-- Want of memory has a name of its own, and is never told as a fault of a file.
+abbrev pub IsByItsName : Refusal → Type 0
+IsByItsName (Machine machines.NoMemory) = ⊥
+IsByItsName (Image number (Elf files.NoMemory)) = ⊥
+IsByItsName _ = ⊤
+
 -- neither the words are refused nor the output
 abbrev pub IsOtherRefusal : Refusal → Type 0
 IsOtherRefusal Usage = ⊥
 IsOtherRefusal Write = ⊥
-IsOtherRefusal _ = ⊤
+IsOtherRefusal refusal = IsByItsName refusal
 
 abbrev pub IsOther : {A : Type 0} → Result A Refusal → Type 0
 IsOther (Ok value) = ⊤

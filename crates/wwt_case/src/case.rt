@@ -1,9 +1,9 @@
-ghost use Rattle.std.specs.Prelude.{◌≡◌, ◌≢◌, ◌≤◌, ◌⊎◌, ◌∷◌, [], Some, Err, All, length, map, string_bytes, true, false, IfOk, IfSome, IsErrOf};
+ghost use Rattle.std.specs.Prelude.{◌≡◌, ◌≢◌, ◌≤◌, ◌⊎◌, ◌∷◌, [], Some, Err, All, length, map, string_bytes, true, false, IfOk, IfErr, IfSome, IsErrOf};
 ghost use Rattle.elf_image.specs.Sizes.{HoldsItsBytes};
 ghost use Rattle.machine_json.specs.Description.{description_of, HasImages};
 ghost use Rattle.wwt_case.specs.Case.{case_of, names_of, is_usage_of, command_case, command_names, check_case, run_case, with_budget_of, generated_case, generated_names, described_case, described_names, machine_case, loaded_machine, description_case, description_or, dis_case, dis_of, flat_case, flat_of, input_name, HasRanges, IsBudget, IsLoaded, IsReady};
 ghost use Rattle.wwt_case.specs.Programs.{names_from};
-ghost use Rattle.wwt_case.specs.Reading.{Answers, Reads, IsOther};
+ghost use Rattle.wwt_case.specs.Reading.{Answers, Reads, IsByItsName, IsOther};
 ghost use Rattle.wwt_words.specs.Words.{command_of};
 
 use crate::images::{Images, read_images};
@@ -33,13 +33,15 @@ pub fn prepare<S: Store>(alloc: Global, words: &[String], store: &mut S) -> Resu
     ensures ready { IfOk result IsReady }
     ensures accepted { IfOk result (λ _. is_usage_of (command_of (map string_bytes words.now)) ≡ false) }
     ensures usage { IsErrOf result Refusal.Usage → is_usage_of (command_of (map string_bytes words.now)) ≡ true }
-    ensures refused { is_usage_of (command_of (map string_bytes words.now)) ≡ true → store.new ≡ store.old }
+    ensures refused { is_usage_of (command_of (map string_bytes words.now)) ≡ true → IsErrOf result Refusal.Usage ⊎ IsErrOf result Refusal.NoMemory }
+    ensures unread { is_usage_of (command_of (map string_bytes words.now)) ≡ true → store.new ≡ store.old }
     ensures reads { result ≢ Err Refusal.Write }
+    ensures wanting { IfErr result IsByItsName }
 {
     match read_words(alloc, words) {
         Ok(command) => prepare_command(alloc, &command, store),
         Err(WordFault::Usage) => Err(Refusal::Usage),
-        Err(WordFault::NoMemory) => Err(Refusal::Memory),
+        Err(WordFault::NoMemory) => Err(Refusal::NoMemory),
     }
 }
 
@@ -60,8 +62,10 @@ fn prepare_command<S: Store>(
     ensures ready { IfOk result IsReady }
     ensures accepted { IfOk result (λ _. is_usage_of (Some command.now) ≡ false) }
     ensures usage { IsErrOf result Refusal.Usage → is_usage_of (Some command.now) ≡ true }
-    ensures refused { is_usage_of (Some command.now) ≡ true → store.new ≡ store.old }
+    ensures refused { is_usage_of (Some command.now) ≡ true → IsErrOf result Refusal.Usage }
+    ensures unread { is_usage_of (Some command.now) ≡ true → store.new ≡ store.old }
     ensures reads { result ≢ Err Refusal.Write }
+    ensures wanting { IfErr result IsByItsName }
 {
     match command {
         Command::Check { machine } => prepare_check(alloc, machine.get(), store),
@@ -279,7 +283,7 @@ fn describe(alloc: Global, bytes: &[u8]) -> Result<Description, Refusal>
 {
     match read_machine(alloc, bytes) {
         Ok(description) => Ok(description),
-        Err(MachineFault::NoMemory) => Err(Refusal::Memory),
+        Err(MachineFault::NoMemory) => Err(Refusal::NoMemory),
         Err(fault) => Err(Refusal::Machine { fault }),
     }
 }

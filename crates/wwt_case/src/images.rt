@@ -42,11 +42,11 @@ impl Images {
     /// Adds an image at the end.
     pub fn push(&mut self, image: Image) -> Result<(), Refusal>
         ensures ok { OnOk result (self.new ≡ self.old ++ image ∷ []) }
-        ensures memory { IfErr result (λ refusal. refusal ≡ Refusal.Memory) }
+        ensures memory { IfErr result (λ refusal. refusal ≡ Refusal.NoMemory) }
     {
         match self.inner.push(image) {
             Ok(()) => Ok(()),
-            Err(_) => Err(Refusal::Memory),
+            Err(_) => Err(Refusal::NoMemory),
         }
     }
 
@@ -98,7 +98,7 @@ fn with_image(images: Images, image: Image) -> Result<Images, Refusal>
     requires images { All HoldsItsBytes images }
     requires image { HoldsItsBytes image }
     ensures ok { IfOk result (λ more. more ≡ images ++ image ∷ []) }
-    ensures memory { IfErr result (λ refusal. refusal ≡ Refusal.Memory) }
+    ensures memory { IfErr result (λ refusal. refusal ≡ Refusal.NoMemory) }
     ensures held { IfOk result (All HoldsItsBytes) }
 {
     let mut more = images;
@@ -129,7 +129,7 @@ pub fn read_image<S: Store>(
         ImageSpec::Bytes { at, bytes } => {
             let copy = match bytes.get().to_vec(alloc) {
                 Ok(copy) => copy,
-                Err(_) => return Err(Refusal::Memory),
+                Err(_) => return Err(Refusal::NoMemory),
             };
             flat(alloc, copy, *at)
         }

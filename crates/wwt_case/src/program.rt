@@ -40,7 +40,7 @@ fn executable(alloc: Global, number: u32, bytes: &[u8]) -> Result<Image, Refusal
 {
     match read_elf(alloc, bytes) {
         Ok(image) => Ok(image),
-        Err(ImageFault::NoMemory) => Err(Refusal::Memory),
+        Err(ImageFault::NoMemory) => Err(Refusal::NoMemory),
         Err(fault) => Err(Refusal::Image {
             number,
             refusal: ImageRefusal::Elf { fault },
@@ -52,12 +52,12 @@ fn executable(alloc: Global, number: u32, bytes: &[u8]) -> Result<Image, Refusal
 pub fn flat(alloc: Global, bytes: Vec<u8>, at: u32) -> Result<Image, Refusal>
     requires { at % 4 ≡ 0 }
     ensures image { IfOk result (λ image. image ≡ flat_image bytes.items at) }
-    ensures memory { IfErr result (λ refusal. refusal ≡ Refusal.Memory) }
+    ensures memory { IfErr result (λ refusal. refusal ≡ Refusal.NoMemory) }
     ensures bytes { IfOk result HoldsItsBytes }
 {
     // An image has fewer than 2^32 bytes; more can't be held.
     if bytes.len() > u32::MAX as usize {
-        return Err(Refusal::Memory);
+        return Err(Refusal::NoMemory);
     }
     Ok(read_flat(alloc, bytes, at)?)
 }
@@ -97,6 +97,6 @@ fn refused_load(fault: LoadFault) -> Refusal
             number: image,
             refusal: ImageRefusal::Entry { entry },
         },
-        LoadFault::NoMemory => Refusal::Memory,
+        LoadFault::NoMemory => Refusal::NoMemory,
     }
 }

@@ -27,7 +27,7 @@ pub fn read_file<S: Store>(store: &mut S, name: Name, kind: FileKind) -> Result<
         Ok(bytes) => Ok(Bytes::new(bytes)),
         Err(StoreFail::Failed) => Err(Refusal::Read { name }),
         Err(StoreFail::TooLong) => Err(too_long(kind)),
-        Err(StoreFail::NoMemory) => Err(Refusal::Memory),
+        Err(StoreFail::NoMemory) => Err(Refusal::NoMemory),
     }
 }
 

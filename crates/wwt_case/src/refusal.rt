@@ -1,5 +1,5 @@
 ghost use Rattle.std.specs.Prelude.{◌≡◌};
-ghost use Rattle.wwt_case.specs.declared.refusal.Refusal.TheVariants.{Memory};
+ghost use Rattle.wwt_case.specs.declared.refusal.Refusal.TheVariants.{NoMemory};
 
 use crate::name::Name;
 use elf_image::ImageFault;
@@ -33,7 +33,7 @@ pub enum Refusal {
     /// The output can't be written.
     Write,
     /// Memory was wanted and refused.
-    Memory,
+    NoMemory,
 }
 
 /// What a file is read as.
@@ -46,9 +46,9 @@ pub enum FileKind {
 }
 
 impl From<NoMemory> for Refusal {
-    ghost from_gives = { λ _ refusal. refusal ≡ Memory };
+    ghost from_gives = { λ _ refusal. refusal ≡ NoMemory };
 
     fn from(_error: NoMemory) -> Refusal {
-        Refusal::Memory
+        Refusal::NoMemory
     }
 }

@@ -38,7 +38,7 @@ fn text_of(alloc: Global, answer: &Result<Job, Refusal>) -> Result<String, Fail>
         Err(Refusal::Machine { .. }) => String::from_str(alloc, "machine")?,
         Err(Refusal::Usage) => String::from_str(alloc, "usage")?,
         Err(Refusal::Write) => String::from_str(alloc, "write")?,
-        Err(Refusal::Memory) => String::from_str(alloc, "memory")?,
+        Err(Refusal::NoMemory) => String::from_str(alloc, "memory")?,
     })
 }
 

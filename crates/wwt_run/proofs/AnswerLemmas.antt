@@ -1,17 +1,17 @@
 -- Which status goes with which end.
-use Rattle.std.proofs.Common.{◌≡◌, ◌≢◌, ℕ, List, [], Option, Some, Result, Ok, Err, IfOk, ◌⊎◌, inl, inr, Bool, true, false, cond, ap, sym, ◌∙◌, subst, refl}
+use Rattle.std.proofs.Common.{◌≡◌, ◌≢◌, ℕ, List, [], Option, Some, Result, Ok, Err, IfOk, IfErr, ◌⊎◌, inl, inr, Bool, true, false, cond, ap, sym, ◌∙◌, subst, refl}
 use Rattle.wt_outside.specs.Files.{Files}
 use Rattle.wt_outside.specs.Growth.{Grows}
 use Rattle.wwt_case.specs.declared.job.Job.{Job}
 use Rattle.wwt_case.specs.declared.job.Job.TheVariants.{Check, Dis, Flat, Run, Load}
 use Rattle.wwt_case.specs.declared.refusal.Refusal.{Refusal}
 use Rattle.wwt_case.specs.declared.refusal.Refusal.TheVariants as refusals
-use Rattle.wwt_case.specs.Reading.{Store, Asks, IsSound, IsThrough}
+use Rattle.wwt_case.specs.Reading.{Store, Asks, IsByItsName, IsSound, IsThrough}
 use Rattle.node.specs.declared.state.NodeState.{NodeState}
 use Rattle.wt_stats.specs.declared.head.Outcome.{Outcome}
 use Rattle.wt_stats.specs.declared.head.Outcome.TheVariants as outcomes
 use Rattle.wwt_run.specs.declared.status.Status.{Status}
-use Rattle.wwt_run.specs.declared.status.Status.TheVariants.{Done, NodeFault, ReadFault, NoMemory}
+use Rattle.wwt_run.specs.declared.status.Status.TheVariants.{Done, NodeFault, Usage, Budget, EventLimit, Stalled, BadMachine, BadImage, ReadFault, WriteFault, NoMemory}
 use Rattle.wwt_run.specs.Status.{status_of_refusal, status_after_of}
 use Rattle.wt_params.specs.declared.parts.MachineParts.{MachineParts}
 use Rattle.wt_params.specs.Machine.{flat_machine}
@@ -19,7 +19,7 @@ use Rattle.image_loader.specs.Images.{LoadedImages}
 use Rattle.quantum.specs.Outcome.{outcome_of}
 use Rattle.wt_report.specs.declared.options.Options.{Options}
 use Rattle.wwt_run.specs.Jobs.{final_of, asked_of, summary_of, status_of_job, status_of, output_of, status_of_run}
-use Rattle.wwt_run.specs.Answer.{Ends, IsDone, IsEarly}
+use Rattle.wwt_run.specs.Answer.{Ends, IsDone, IsEarly, IsUnwritten}
 
 either_done : (b : Bool) → IsDone (cond b Done NodeFault)
 either_done true = tt
@@ -54,13 +54,13 @@ pub ok_status : (wanted : Result Job Refusal) (status : Status) → Ends wanted 
 ok_status (Ok job) status is = is
 ok_status (Err reason) status is = absurd is
 
-early_or : (refusal : Refusal) → (refusal ≡ refusals.Write) ⊎ ((refusal ≡ refusals.Memory) ⊎ IsEarly (Err refusal))
+early_or : (refusal : Refusal) → (refusal ≡ refusals.Write) ⊎ ((refusal ≡ refusals.NoMemory) ⊎ IsEarly (Err refusal))
 early_or refusals.Usage = inr (inr tt)
 early_or (refusals.Read name) = inr (inr tt)
 early_or (refusals.Machine fault) = inr (inr tt)
 early_or (refusals.Image number why) = inr (inr tt)
 early_or refusals.Write = inl refl
-early_or refusals.Memory = inr (inl refl)
+early_or refusals.NoMemory = inr (inl refl)
 
 -- a refusal in which no fault of the output rose
 pub refused_end : (wanted : Result Job Refusal) (refusal : Refusal) (status : Status) (a b : Option (List ℕ)) → status ≡ status_of_refusal refusal → Ends wanted (Err refusal) → refusal ≢ refusals.Write → (IsEarly (Err refusal) → Grows a b []) → (Some status ≡ Some NoMemory) ⊎ ((Some status ≡ Some (status_of wanted)) × Grows a b (output_of wanted))
@@ -78,13 +78,45 @@ refused_end (Err reason) refusal status a b is ends unwritten early =
       | inr memory ↦ inl (ap Some (is ∙ ap status_of_refusal memory))
     ]
 
+-- a status in which nothing was written is that of a refusal before anything is
+pub is_early : (refusal : Refusal) (status : Status) → status ≡ status_of_refusal refusal → IsUnwritten status → IsEarly (Err refusal)
+is_early refusal status is unwritten = by refusal (subst IsUnwritten is unwritten)
+  where
+    by : (reason : Refusal) → IsUnwritten (status_of_refusal reason) → IsEarly (Err reason)
+    by refusals.Usage e = tt
+    by (refusals.Read name) e = tt
+    by (refusals.Machine fault) e = tt
+    by (refusals.Image number why) e = tt
+    by refusals.Write e = e
+    by refusals.NoMemory e = e
+
+-- and not that of a job
+pub done_is_written : (status : Status) → IsDone status → IsUnwritten status → ⊥
+done_is_written Done done unwritten = unwritten
+done_is_written NodeFault done unwritten = unwritten
+done_is_written Usage done unwritten = done
+done_is_written Budget done unwritten = unwritten
+done_is_written EventLimit done unwritten = unwritten
+done_is_written Stalled done unwritten = unwritten
+done_is_written BadMachine done unwritten = done
+done_is_written BadImage done unwritten = done
+done_is_written ReadFault done unwritten = done
+done_is_written WriteFault done unwritten = done
+done_is_written NoMemory done unwritten = done
+
+-- what a job is refused for goes by its name
+pub by_its_name : (result : Result Status Refusal) → IfErr result (λ refusal. (refusal ≡ refusals.Write) ⊎ (refusal ≡ refusals.NoMemory)) → IfErr result IsByItsName
+by_its_name (Ok status) kinds = tt
+by_its_name (Err refusal) kinds =
+    elim kinds [ inl write ↦ subst IsByItsName (sym write) tt | inr memory ↦ subst IsByItsName (sym memory) tt ]
+
 pub read_of : (refusal : Refusal) → status_of_refusal refusal ≡ ReadFault → (name : List ℕ) × (refusal ≡ refusals.Read name)
 read_of refusals.Usage e = cc
 read_of (refusals.Read name) e = (name, refl)
 read_of (refusals.Machine fault) e = cc
 read_of (refusals.Image number why) e = cc
 read_of refusals.Write e = cc
-read_of refusals.Memory e = cc
+read_of refusals.NoMemory e = cc
 
 -- all names are asked for where less is said to be needed
 pub asks_when : {S : Type 0} (names : Files → List (List ℕ)) (store : Store S) (all more : Type 0) → (more → all) → Asks names store all → Asks names store more

@@ -9,7 +9,7 @@ use Rattle.node.specs.React.{wind_tunnel}
 use Rattle.wwt_case.specs.declared.job.Job.{Job}
 use Rattle.wwt_case.specs.declared.job.Job.TheVariants.{Check, Dis, Flat, Run, Load}
 use Rattle.wwt_case.specs.declared.refusal.Refusal.{Refusal}
-use Rattle.wwt_case.specs.declared.refusal.Refusal.TheVariants.{Write, Memory}
+use Rattle.wwt_case.specs.declared.refusal.Refusal.TheVariants as refusals
 use Rattle.wt_listing.specs.declared.fault.ListingFault.{ListingFault}
 use Rattle.wt_listing.specs.declared.fault.ListingFault.TheVariants.{Failed, NoMemory}
 use Rattle.wwt_run.specs.declared.status.Status.{Status}
@@ -77,5 +77,5 @@ output_of (Err refusal) = []
 -- how writing a text ends a job
 abbrev pub WritingEnds : Result (Unit {0}) ListingFault → Result Status Refusal → Type 0
 WritingEnds (Ok _) result = result ≡ Ok Done
-WritingEnds (Err Failed) result = result ≡ Err Write
-WritingEnds (Err NoMemory) result = result ≡ Err Memory
+WritingEnds (Err Failed) result = result ≡ Err refusals.Write
+WritingEnds (Err NoMemory) result = result ≡ Err refusals.NoMemory

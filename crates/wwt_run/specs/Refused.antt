@@ -8,7 +8,7 @@ use Rattle.wt_text.specs.Text.{line_end, eight_digits}
 use Rattle.wwt_case.specs.declared.refusal.ImageRefusal.{ImageRefusal}
 use Rattle.wwt_case.specs.declared.refusal.ImageRefusal.TheVariants.{TooLong, Elf, Outside, Entry}
 use Rattle.wwt_case.specs.declared.refusal.Refusal.{Refusal}
-use Rattle.wwt_case.specs.declared.refusal.Refusal.TheVariants.{Usage, Read, Machine, Image, Write, Memory}
+use Rattle.wwt_case.specs.declared.refusal.Refusal.TheVariants.{Usage, Read, Machine, Image, Write, NoMemory}
 use Rattle.wwt_run.specs.declared.status.Status.{Status}
 
 -- the parts of a line, one after another
@@ -57,7 +57,7 @@ error_parts (Machine fault) = codes "wwt: machine: " ∷ machine_parts fault ++ 
 error_parts (Image number refusal) =
     codes "wwt: image " ∷ decimal number ∷ codes ": " ∷ image_parts refusal ++ line_end ∷ []
 error_parts Write = codes "wwt: write failed" ∷ line_end ∷ []
-error_parts Memory = codes "wwt: out of memory" ∷ line_end ∷ []
+error_parts NoMemory = codes "wwt: out of memory" ∷ line_end ∷ []
 
 -- the line of a refusal
 unfoldable pub error_line : Refusal → List ℕ

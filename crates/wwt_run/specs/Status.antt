@@ -44,7 +44,7 @@ status_of_refusal (refusals.Read name) = ReadFault
 status_of_refusal (refusals.Machine fault) = BadMachine
 status_of_refusal (refusals.Image number refusal) = BadImage
 status_of_refusal refusals.Write = WriteFault
-status_of_refusal refusals.Memory = NoMemory
+status_of_refusal refusals.NoMemory = NoMemory
 
 -- a call ends by a job's status or by a refusal
 abbrev pub status_of_end : Result Status Refusal → Status

@@ -19,7 +19,7 @@ pub fn perform<K: Sink>(alloc: Global, job: &Job, out: &mut K) -> Result<Status,
     ensures status { IfOk result (λ status. status ≡ status_of_job job.now) }
     ensures whole { OnOk result (Grows (K.written out.old) (K.written out.new) (output_of_job job.now)) }
     ensures part { GrowsByPrefix (K.written out.old) (K.written out.new) (output_of_job job.now) }
-    ensures kinds { IfErr result (λ refusal. (refusal ≡ Refusal.Write) ⊎ (refusal ≡ Refusal.Memory)) }
+    ensures kinds { IfErr result (λ refusal. (refusal ≡ Refusal.Write) ⊎ (refusal ≡ Refusal.NoMemory)) }
     ensures failed { IsErrOf result Refusal.Write → Rose (K.faults out.old) (K.faults out.new) }
     ensures steady { (result ≢ Err Refusal.Write) → K.faults out.new ≡ K.faults out.old }
     ensures later { K.faults out.old ≤ K.faults out.new }
@@ -45,7 +45,7 @@ fn written(writing: Result<(), ListingFault>) -> Result<Status, Refusal>
     match writing {
         Ok(()) => Ok(Status::Done),
         Err(ListingFault::Failed) => Err(Refusal::Write),
-        Err(ListingFault::NoMemory) => Err(Refusal::Memory),
+        Err(ListingFault::NoMemory) => Err(Refusal::NoMemory),
     }
 }
 

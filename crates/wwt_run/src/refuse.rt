@@ -3,7 +3,7 @@ ghost use Rattle.wt_text.specs.Text.{eight_digits};
 ghost use Rattle.wt_outside.specs.Faults.{Rose};
 ghost use Rattle.wt_outside.specs.Growth.{Grows, GrowsByPrefix};
 ghost use Rattle.machine_json.specs.declared.fault.MachineFault.TheVariants.{Range};
-ghost use Rattle.wwt_case.specs.declared.refusal.Refusal.TheVariants.{Memory, Machine, Image};
+ghost use Rattle.wwt_case.specs.declared.refusal.Refusal.TheVariants.{NoMemory, Machine, Image};
 ghost use Rattle.wwt_run.specs.Answer.{Tells};
 ghost use Rattle.wwt_run.specs.Refused.{error_line, file_text_of};
 ghost use Rattle.wwt_run.specs.Refused.{joined};
@@ -54,17 +54,17 @@ pub fn refuse<E: Sink>(refusal: &Refusal, err: &mut E) -> Status
             say(refusal, &[b"wwt: write failed", b"\n"], err);
             Status::WriteFault
         }
-        Refusal::Memory => out_of_memory(err),
+        Refusal::NoMemory => out_of_memory(err),
     }
 }
 
 /// Tells want of memory, where not even the words of the command line could be had.
 #[tactic(auto, unfolding(crate::specs::Refused::error_line))]
 pub fn out_of_memory<E: Sink>(err: &mut E) -> Status
-    ensures status { result ≡ status_of_refusal Memory }
-    ensures line { Tells (error_line Memory) (E.faults err.old) (E.faults err.new) (E.written err.old) (E.written err.new) }
+    ensures status { result ≡ status_of_refusal NoMemory }
+    ensures line { Tells (error_line NoMemory) (E.faults err.old) (E.faults err.new) (E.written err.old) (E.written err.new) }
 {
-    say(&Refusal::Memory, &[b"wwt: out of memory", b"\n"], err);
+    say(&Refusal::NoMemory, &[b"wwt: out of memory", b"\n"], err);
     Status::NoMemory
 }
 

@@ -32,7 +32,7 @@ pub fn run<K: Sink>(
     ensures status { IfOk result (λ status. status ≡ status_of_run machine.now loaded.now options.now) }
     ensures whole { OnOk result (Grows (K.written out.old) (K.written out.new) (output_of_run machine.now loaded.now options.now)) }
     ensures part { GrowsByPrefix (K.written out.old) (K.written out.new) (output_of_run machine.now loaded.now options.now) }
-    ensures kinds { IfErr result (λ refusal. (refusal ≡ Refusal.Write) ⊎ (refusal ≡ Refusal.Memory)) }
+    ensures kinds { IfErr result (λ refusal. (refusal ≡ Refusal.Write) ⊎ (refusal ≡ Refusal.NoMemory)) }
     ensures failed { IsErrOf result Refusal.Write → Rose (K.faults out.old) (K.faults out.new) }
     ensures steady { (result ≢ Err Refusal.Write) → K.faults out.new ≡ K.faults out.old }
     ensures later { K.faults out.old ≤ K.faults out.new }
@@ -43,7 +43,7 @@ pub fn run<K: Sink>(
     match write_report(alloc, &head, machine, stations, options, out) {
         Ok(()) => Ok(status_after(head.outcome, stations)),
         Err(ReportFault::Failed) => Err(Refusal::Write),
-        Err(ReportFault::NoMemory) => Err(Refusal::Memory),
+        Err(ReportFault::NoMemory) => Err(Refusal::NoMemory),
     }
 }
 

@@ -1,13 +1,13 @@
-ghost use Rattle.std.specs.Prelude.{◌≡◌, ◌≢◌, ℕ, ◌<◌, ◌⊎◌, List, [], Some, Ok, Err, map, string_bytes, true, Contains, IsSome, IfOk, OnOk, IsErrOf};
+ghost use Rattle.std.specs.Prelude.{◌≡◌, ◌≢◌, ℕ, ◌<◌, ◌⊎◌, List, [], Some, Ok, Err, map, string_bytes, true, Contains, IsSome, IfOk, IfErr, IfSome, OnOk, IsErrOf};
 ghost use Rattle.wt_outside.specs.Faults.{Rose, Stood};
 ghost use Rattle.wt_outside.specs.Files.{Files, IsMissing};
 ghost use Rattle.wt_outside.specs.Growth.{Grows, GrowsByPrefix};
 ghost use Rattle.wwt_case.specs.declared.job.Job.{Job};
 ghost use Rattle.wwt_case.specs.Case.{case_of, names_of, is_usage_of};
-ghost use Rattle.wwt_case.specs.Reading.{Asks, IsThrough};
+ghost use Rattle.wwt_case.specs.Reading.{Asks, IsByItsName, IsThrough};
 ghost use Rattle.wwt_words.specs.Words.{command_of};
 ghost use Rattle.wwt_run.specs.Jobs.{status_of, output_of, output_of_job};
-ghost use Rattle.wwt_run.specs.Answer.{Ended, Ends, IsDone, IsEarly};
+ghost use Rattle.wwt_run.specs.Answer.{Ended, Ends, IsDone, IsEarly, IsUnwritten};
 
 use crate::perform::perform;
 use crate::refuse::refuse;
@@ -47,6 +47,7 @@ pub fn wwt_plain<S: Store, K: Sink, E: Sink>(
 
     // Words are refused by themselves, and then nothing is read or written.
     ensures usage { result ≡ Some Status.Usage → is_usage_of (command_of (map string_bytes words.now)) ≡ true }
+    ensures refused { is_usage_of (command_of (map string_bytes words.now)) ≡ true → (result ≡ Some Status.Usage) ⊎ (result ≡ Some Status.NoMemory) }
     ensures untouched { is_usage_of (command_of (map string_bytes words.now)) ≡ true → (store.new ≡ store.old) × (out.new ≡ out.old) }
 
     // Each name that the case lists is read once, in order, and none after a refusal: all of them where no fault of the
@@ -65,7 +66,9 @@ pub fn wwt_plain<S: Store, K: Sink, E: Sink>(
     ensures store_fault { S.faults store.old < S.faults store.new → (result ≡ Some Status.ReadFault) ⊎ (result ≡ Some Status.NoMemory) }
     ensures sink_fault { K.faults out.old < K.faults out.new → (result ≡ Some Status.WriteFault) ⊎ (result ≡ Some Status.NoMemory) }
 
-    // What is written is a first part of the output of some job, of the told files that of their case.
+    // Nothing is written before all is read and loaded. What is written is a first part of the output of some job, of the
+    // told files that of their case.
+    ensures unwritten { IfSome result IsUnwritten → Grows (K.written out.old) (K.written out.new) [] }
     ensures part { (job : Job) × GrowsByPrefix (K.written out.old) (K.written out.new) (output_of_job job) }
     ensures told_part { (files : Files) → S.files store.old ≡ Some files
         → GrowsByPrefix (K.written out.old) (K.written out.new) (output_of (case_of (map string_bytes words.now) files)) }
@@ -90,6 +93,7 @@ fn attempt<S: Store, K: Sink>(
         → Contains (names_of (map string_bytes words.now) files) name }
     ensures whole { (files : Files) → S.files store.old ≡ Some files → OnOk result (Grows (K.written out.old) (K.written out.new) (output_of (case_of (map string_bytes words.now) files))) }
     ensures usage { IsErrOf result Refusal.Usage → is_usage_of (command_of (map string_bytes words.now)) ≡ true }
+    ensures refused { is_usage_of (command_of (map string_bytes words.now)) ≡ true → IsErrOf result Refusal.Usage ⊎ IsErrOf result Refusal.NoMemory }
     ensures untouched { is_usage_of (command_of (map string_bytes words.now)) ≡ true → (store.new ≡ store.old) × (out.new ≡ out.old) }
     ensures once { Asks (names_of (map string_bytes words.now)) (record {
       files = S.files store.old;
@@ -109,6 +113,7 @@ fn attempt<S: Store, K: Sink>(
     ensures write_fault { IsErrOf result Refusal.Write → Rose (K.faults out.old) (K.faults out.new) }
     ensures out_steady { result ≢ Err Refusal.Write → K.faults out.new ≡ K.faults out.old }
     ensures done { IfOk result IsDone }
+    ensures wanting { IfErr result IsByItsName }
     ensures early { IsEarly result → Grows (K.written out.old) (K.written out.new) [] }
     ensures part { (job : Job) × GrowsByPrefix (K.written out.old) (K.written out.new) (output_of_job job) }
     ensures told_part { (files : Files) → S.files store.old ≡ Some files

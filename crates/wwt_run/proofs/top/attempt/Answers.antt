@@ -2,11 +2,17 @@ use Rattle.std.proofs.Common.{[], refl, sym, ◌∙◌}
 use Rattle.std.proofs.lemmas.Bool.{false≢true}
 use Rattle.wt_outside.proofs.GrowthLemmas.{prefix_nothing}
 use Rattle.wwt_case.specs.declared.job.Job.TheVariants.{Dis}
-use Rattle.wwt_run.proofs.AnswerLemmas.{end_is_done, asks_when}
+use Rattle.wwt_run.proofs.AnswerLemmas.{end_is_done, by_its_name, asks_when}
 use Rattle.wwt_run.proofs.top.attempt.Goals as goal
 
 pub returns-in-Ok-clause-untouched : goal.returns-in-Ok-clause-untouched
 returns-in-Ok-clause-untouched g c = λ usage. absurd (false≢true (sym c.in-Ok.ensures.accepted ∙ usage))
+
+pub returns-in-Ok-clause-refused : goal.returns-in-Ok-clause-refused
+returns-in-Ok-clause-refused g c = λ usage. absurd (false≢true (sym c.in-Ok.ensures.accepted ∙ usage))
+
+pub returns-in-Ok-clause-wanting : goal.returns-in-Ok-clause-wanting
+returns-in-Ok-clause-wanting g c = by_its_name c.perform.result c.perform.ensures.kinds
 
 -- nothing is the first part of any output
 pub returns-in-Err-clause-part : goal.returns-in-Err-clause-part

@@ -1,7 +1,9 @@
 use Rattle.std.proofs.Common.{◌≡◌, Some, Err, inl, inr, ap, sym, ◌∙◌}
 use Rattle.wt_outside.proofs.FaultLemmas.{not_both}
+use Rattle.wwt_case.specs.declared.refusal.Refusal.TheVariants as refusals
 use Rattle.wwt_run.specs.declared.status.Status.TheVariants.{Usage, ReadFault, WriteFault}
-use Rattle.wwt_run.proofs.AnswerLemmas.{not_done, ok_status, refused_end, read_of, asks_when, asks_by_status}
+use Rattle.wwt_run.specs.Status.{status_of_refusal}
+use Rattle.wwt_run.proofs.AnswerLemmas.{not_done, ok_status, refused_end, is_early, done_is_written, read_of, asks_when, asks_by_status}
 use Rattle.wwt_run.proofs.top.wwt_plain.Goals as goal
 
 pub returns-in-Ok-clause-headline : goal.returns-in-Ok-clause-headline
@@ -33,3 +35,16 @@ returns-in-Ok-clause-once g c = asks_when _ _ _ _ (λ _. tt) c.in-Ok.ensures.onc
 
 pub returns-in-Err-clause-once : goal.returns-in-Err-clause-once
 returns-in-Err-clause-once g c = asks_by_status _ _ c.in-Err.refusal c.refuse.result c.refuse.ensures.status c.in-Err.ensures.once
+
+pub returns-in-Ok-clause-unwritten : goal.returns-in-Ok-clause-unwritten
+returns-in-Ok-clause-unwritten g c = λ unwritten. absurd (done_is_written c.in-Ok.status c.in-Ok.ensures.done unwritten)
+
+pub returns-in-Err-clause-unwritten : goal.returns-in-Err-clause-unwritten
+returns-in-Err-clause-unwritten g c = λ unwritten.
+    c.in-Err.ensures.early (is_early c.in-Err.refusal c.refuse.result c.refuse.ensures.status unwritten)
+
+pub returns-in-Err-clause-refused : goal.returns-in-Err-clause-refused
+returns-in-Err-clause-refused g c = λ usage. elim (c.in-Err.ensures.refused usage) [
+  | inl same ↦ inl (let is : c.in-Err.refusal ≡ refusals.Usage = cc in ap Some (c.refuse.ensures.status ∙ ap status_of_refusal is))
+  | inr same ↦ inr (let is : c.in-Err.refusal ≡ refusals.NoMemory = cc in ap Some (c.refuse.ensures.status ∙ ap status_of_refusal is))
+]
