@@ -41,7 +41,8 @@ impl NodeState {
         }
     }
 
-    /// Does the instruction of a word.
+    /// Does the instruction of a word. (Answers of calls that aren't inlined are copied, so that the others stay in
+    /// registers. The same for loads and stores.)
     #[tactic(auto, unfolding(crate::specs::Processor::execute_of))]
     #[inline(always)]
     fn execute(
@@ -65,8 +66,14 @@ impl NodeState {
             Effect::Store { op, address, value } => {
                 self.store(machine, time, op, address, value, sends)
             }
-            Effect::Cico { op, address } => self.annotate(machine, time, op, address, sends),
-            Effect::Call => self.call(machine, time, sends),
+            Effect::Cico { op, address } => {
+                let deed = self.annotate(machine, time, op, address, sends)?;
+                Ok(deed)
+            }
+            Effect::Call => {
+                let deed = self.call(machine, time, sends)?;
+                Ok(deed)
+            }
             Effect::Break => Ok(self.stop(Cause::Break)),
             Effect::BadTarget { target } => Ok(self.stop(Cause::Target { address: target })),
             Effect::Illegal => Ok(self.stop(Cause::Illegal { word })),

@@ -8,6 +8,7 @@ use crate::instr::Instr;
 use rv_word::{AluOp, bits, imm_b, imm_i, imm_j, imm_s};
 
 /// The instruction of a word: that of the row of the instruction table which the word matches, else Illegal.
+#[inline(always)]
 pub fn decode(word: u32) -> Instr
     ensures table { result ≡ decode_of word }
     ensures fields { IsWellFormed result }
@@ -60,6 +61,7 @@ fn rs2(word: u32) -> u8
 }
 
 #[tactic(auto, using(crate::proofs::Rows::jalr_row, crate::proofs::Illegal::jalr_illegal))]
+#[inline(always)]
 fn indirect_jump(word: u32) -> Instr
     requires { opcode_of word ≡ 0x67 }
     ensures { result ≡ decode_of word }
@@ -75,6 +77,7 @@ fn indirect_jump(word: u32) -> Instr
 }
 
 #[tactic(auto, using(crate::proofs::Rows::branch_row, crate::proofs::Illegal::branch_illegal))]
+#[inline(always)]
 fn branch(word: u32) -> Instr
     requires { opcode_of word ≡ 0x63 }
     ensures { result ≡ decode_of word }
@@ -91,6 +94,7 @@ fn branch(word: u32) -> Instr
 }
 
 #[tactic(auto, using(crate::proofs::Rows::load_row, crate::proofs::Illegal::load_illegal))]
+#[inline(always)]
 fn load(word: u32) -> Instr
     requires { opcode_of word ≡ 0x03 }
     ensures { result ≡ decode_of word }
@@ -107,6 +111,7 @@ fn load(word: u32) -> Instr
 }
 
 #[tactic(auto, using(crate::proofs::Rows::store_row, crate::proofs::Illegal::store_illegal))]
+#[inline(always)]
 fn store(word: u32) -> Instr
     requires { opcode_of word ≡ 0x23 }
     ensures { result ≡ decode_of word }
@@ -124,6 +129,7 @@ fn store(word: u32) -> Instr
 
 /// The operations on a register and a constant, which are no shifts, and the shifts.
 #[tactic(auto, using(crate::proofs::Rows::constant_row))]
+#[inline(always)]
 fn constant_operation(word: u32) -> Instr
     requires { opcode_of word ≡ 0x13 }
     ensures { result ≡ decode_of word }
@@ -172,6 +178,7 @@ fn shift(word: u32) -> Instr
 
 /// The operations on two registers.
 #[tactic(auto, using(crate::proofs::Rows::register_row, crate::proofs::Illegal::register_illegal))]
+#[inline(always)]
 fn operation(word: u32) -> Instr
     requires { opcode_of word ≡ 0x33 }
     ensures { result ≡ decode_of word }
@@ -188,6 +195,7 @@ fn operation(word: u32) -> Instr
 }
 
 #[tactic(auto, using(crate::proofs::Rows::fence_row, crate::proofs::Illegal::fence_illegal))]
+#[inline(always)]
 fn fence(word: u32) -> Instr
     requires { opcode_of word ≡ 0x0f }
     ensures { result ≡ decode_of word }
@@ -200,6 +208,7 @@ fn fence(word: u32) -> Instr
 }
 
 #[tactic(auto, using(crate::proofs::Rows::ecall_row, crate::proofs::Rows::ebreak_row, crate::proofs::Illegal::system_illegal))]
+#[inline(always)]
 fn system(word: u32) -> Instr
     requires { opcode_of word ≡ 0x73 }
     ensures { result ≡ decode_of word }
@@ -212,6 +221,7 @@ fn system(word: u32) -> Instr
 }
 
 #[tactic(auto, using(crate::proofs::Rows::cico_row, crate::proofs::Illegal::cico_illegal, crate::proofs::Illegal::cico_with_rd))]
+#[inline(always)]
 fn annotation(word: u32) -> Instr
     requires { opcode_of word ≡ 0x0b }
     ensures { result ≡ decode_of word }
