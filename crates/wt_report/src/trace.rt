@@ -4,7 +4,8 @@ ghost use Rattle.wt_trace.specs.Merged.{merge_of};
 ghost use Rattle.wt_report.specs.Report.{logs_of, trace_text};
 ghost use Rattle.wt_report.specs.Stations.{MayShowEvents, nodes_of};
 ghost use Rattle.wt_report.specs.Trace.{TraceIsSerial};
-ghost use Rattle.wt_report.specs.Writes.{Writes};
+ghost use Rattle.wt_outside.specs.Writes.{Writes};
+ghost use Rattle.wt_report.specs.declared.fault.ReportFault.TheVariants.{Failed};
 
 use crate::fault::ReportFault;
 use crate::write::write_line;
@@ -22,7 +23,7 @@ pub(crate) fn write_trace<K: Sink>(
     out: &mut K,
 ) -> Result<(), ReportFault>
     requires { MayShowEvents machine.now stations.now true }
-    ensures { Writes (trace_text machine.now (nodes_of stations.now)) result (K.faults out.old) (K.faults out.new) (K.written out.old) (K.written out.new) }
+    ensures { Writes Failed (trace_text machine.now (nodes_of stations.now)) result (K.faults out.old) (K.faults out.new) (K.written out.old) (K.written out.new) }
 {
     let events = merged(alloc, stations)?;
     write_events(alloc, machine, &events, out)
@@ -55,7 +56,7 @@ fn write_events<K: Sink>(
     out: &mut K,
 ) -> Result<(), ReportFault>
     requires { All (RecordFits machine.now) events.now }
-    ensures { Writes (flat_map (line_of machine.now) events.now) result (K.faults out.old) (K.faults out.new) (K.written out.old) (K.written out.new) }
+    ensures { Writes Failed (flat_map (line_of machine.now) events.now) result (K.faults out.old) (K.faults out.new) (K.written out.old) (K.written out.new) }
 {
     let count = events.len();
     let mut i = 0;
@@ -74,7 +75,7 @@ fn write_event<K: Sink>(
     out: &mut K,
 ) -> Result<(), ReportFault>
     requires { RecordFits machine.now item.now }
-    ensures { Writes (line_of machine.now item.now) result (K.faults out.old) (K.faults out.new) (K.written out.old) (K.written out.new) }
+    ensures { Writes Failed (line_of machine.now item.now) result (K.faults out.old) (K.faults out.new) (K.written out.old) (K.written out.new) }
 {
     let line = line(alloc, item, machine)?;
     write_line(&line, out)

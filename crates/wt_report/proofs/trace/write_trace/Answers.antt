@@ -2,7 +2,7 @@ use Rattle.std.proofs.Common.{flat_map, ap, subst, sym}
 use Rattle.std.specs.Prelude.{All}
 use Rattle.wt_trace.specs.EventLine.{RecordFits, line_of}
 use Rattle.wt_report.proofs.TraceLemmas.{events_fit}
-use Rattle.wt_report.proofs.WriteLemmas.{writes_same}
+use Rattle.wt_outside.proofs.WriteLemmas.{writes_same}
 use Rattle.wt_report.proofs.trace.write_trace.Goals as goal
 
 pub write_events-requires : goal.write_events-requires
