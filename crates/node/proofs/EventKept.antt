@@ -3,7 +3,7 @@ use Rattle.std.proofs.Common.{◌≡◌, ◌≢◌, ℕ, zero, suc, ◌+◌, ◌
 use Rattle.std.specs.Prelude.{All, ◌==◌, map}
 use Rattle.std.specs.List.{AllByRecursion}
 use Rattle.std.proofs.lemmas.Bool.{eqb-true}
-use Rattle.std.proofs.lemmas.List.Elements.{All-append}
+use Rattle.std.proofs.lemmas.List.Elements.{All-push}
 use Rattle.std.specs.declared.cmp.Ordering.TheVariants.{Less}
 use Rattle.wt_params.specs.declared.parts.MachineParts.{MachineParts}
 use Rattle.wt_params.specs.Machine.{IsMachine}
@@ -36,7 +36,7 @@ use Rattle.wt_trace.specs.declared.record.What.TheVariants as whats
 use Rattle.node.specs.React.{stamped_from, counted_step, counted_message, message_by, message_of, logged, ended, sends_of, react_with, next_handled, next_what, react_to_step, message_handled, react_to_message, react, record_with, record_of, message_under_key, wind_tunnel}
 use Rattle.node.specs.Sound.{IsNode, ModeFits, SendFits, AreSendable, MayStamp}
 use Rattle.node.specs.Laws.{Fits, IsDueAt, AreNumbered, IsCounted, MachinesAreSimulations}
-use Rattle.node.proofs.Kept.{HasBegun, Went, all_one, step_in_is}
+use Rattle.node.proofs.Kept.{HasBegun, Went, step_in_is}
 use Rattle.node.proofs.StepKept.{step_kept}
 use Rattle.node.proofs.MessageKept.{strays, inv_kept, arrive_kept, leave_kept, go_kept, directory_kept}
 use Rattle.node.proofs.DataKept.{data_kept}
@@ -154,8 +154,7 @@ stamps_fit machine time from sequence (send ∷ rest) there fits (suc k) d below
 -- the log with one record more, where the node is traced
 logged_fits : (machine : MachineParts) (traced : Bool) (item : Record) (log : List Record) → RecordFits machine item → All (RecordFits machine) log →
     All (RecordFits machine) (logged traced item log)
-logged_fits machine true item log one all =
-    All-append (RecordFits machine) log (item ∷ []) all (all_one (RecordFits machine) item one)
+logged_fits machine true item log one all = All-push (RecordFits machine) log item all one
 logged_fits machine false item log one all = all
 
 pub ended_is_node : (machine : MachineParts) (time least : ℕ) (begun : NodeState) (key : Key) (what : What) (handled : Handled) → Went machine time least begun handled →

@@ -1,6 +1,6 @@
 ghost use Rattle.wt_report.specs.Memory.{memory_text};
 ghost use Rattle.wt_report.specs.Report.{body_text, if_asked, report, rest_text, trace_text};
-ghost use Rattle.wt_report.specs.Stations.{AreStationsOf, MayShowEvents, nodes_of};
+ghost use Rattle.wt_report.specs.Stations.{AreStationsOf, nodes_of};
 ghost use Rattle.wt_outside.specs.Writes.{Writes};
 ghost use Rattle.wt_report.specs.declared.fault.ReportFault.TheVariants.{Failed};
 
@@ -27,8 +27,7 @@ pub fn write_report<K: Sink>(
     options: &Options,
     out: &mut K,
 ) -> Result<(), ReportFault>
-    requires stations { AreStationsOf machine.now stations.now }
-    requires events { MayShowEvents machine.now stations.now options.now.trace }
+    requires { AreStationsOf machine.now stations.now }
     ensures { Writes Failed (report machine.now head.now (nodes_of stations.now) options.now) result (K.faults out.old) (K.faults out.new) (K.written out.old) (K.written out.new) }
 {
     write_head(alloc, head, out)?;
@@ -43,8 +42,7 @@ fn write_rest<K: Sink>(
     options: &Options,
     out: &mut K,
 ) -> Result<(), ReportFault>
-    requires stations { AreStationsOf machine.now stations.now }
-    requires events { MayShowEvents machine.now stations.now options.now.trace }
+    requires { AreStationsOf machine.now stations.now }
     ensures { Writes Failed (rest_text machine.now (nodes_of stations.now) options.now) result (K.faults out.old) (K.faults out.new) (K.written out.old) (K.written out.new) }
 {
     if options.summary {
@@ -62,8 +60,7 @@ fn write_body<K: Sink>(
     options: &Options,
     out: &mut K,
 ) -> Result<(), ReportFault>
-    requires stations { AreStationsOf machine.now stations.now }
-    requires events { MayShowEvents machine.now stations.now options.now.trace }
+    requires { AreStationsOf machine.now stations.now }
     ensures { Writes Failed (body_text machine.now (nodes_of stations.now) options.now) result (K.faults out.old) (K.faults out.new) (K.written out.old) (K.written out.new) }
 {
     write_trace_if(alloc, machine, stations, options.trace, out)?;
@@ -80,8 +77,7 @@ fn write_trace_if<K: Sink>(
     asked: bool,
     out: &mut K,
 ) -> Result<(), ReportFault>
-    requires stations { AreStationsOf machine.now stations.now }
-    requires events { MayShowEvents machine.now stations.now asked }
+    requires { AreStationsOf machine.now stations.now }
     ensures { Writes Failed (if_asked asked (trace_text machine.now (nodes_of stations.now))) result (K.faults out.old) (K.faults out.new) (K.written out.old) (K.written out.new) }
 {
     if asked {

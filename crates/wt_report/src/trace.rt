@@ -1,8 +1,9 @@
-ghost use Rattle.std.specs.Prelude.{◌≡◌, All, true, IfOk, flat_map};
+ghost use Rattle.std.specs.Prelude.{◌≡◌, All, IfOk, OnOk, flat_map};
 ghost use Rattle.wt_trace.specs.EventLine.{RecordFits, line_of};
 ghost use Rattle.wt_trace.specs.Merged.{merge_of};
+ghost use Rattle.quantum.specs.Stations.{IsLive, IsUnbroken};
 ghost use Rattle.wt_report.specs.Report.{logs_of, trace_text};
-ghost use Rattle.wt_report.specs.Stations.{MayShowEvents, nodes_of};
+ghost use Rattle.wt_report.specs.Stations.{AreStationsOf, nodes_of};
 ghost use Rattle.wt_report.specs.Trace.{TraceIsSerial};
 ghost use Rattle.wt_outside.specs.Writes.{Writes};
 ghost use Rattle.wt_report.specs.declared.fault.ReportFault.TheVariants.{Failed};
@@ -22,7 +23,7 @@ pub(crate) fn write_trace<K: Sink>(
     stations: &[Station],
     out: &mut K,
 ) -> Result<(), ReportFault>
-    requires { MayShowEvents machine.now stations.now true }
+    requires { AreStationsOf machine.now stations.now }
     ensures { Writes Failed (trace_text machine.now (nodes_of stations.now)) result (K.faults out.old) (K.faults out.new) (K.written out.old) (K.written out.new) }
 {
     let events = merged(alloc, stations)?;
@@ -31,7 +32,8 @@ pub(crate) fn write_trace<K: Sink>(
 
 /// The records of all nodes. The logs are copied for it, and the copies are given back.
 fn merged(alloc: Global, stations: &[Station]) -> Result<NodeLog, NoMemory>
-    ensures { IfOk result (λ events. events ≡ merge_of (logs_of (nodes_of stations.now))) }
+    ensures events { IfOk result (λ events. events ≡ merge_of (logs_of (nodes_of stations.now))) }
+    ensures live { OnOk result (All (λ station. IsUnbroken station → IsLive station) stations.now) }
 {
     let logs = logs(alloc, stations)?;
     merge(alloc, &logs)
@@ -39,7 +41,8 @@ fn merged(alloc: Global, stations: &[Station]) -> Result<NodeLog, NoMemory>
 
 /// Copies of the logs of all nodes.
 fn logs(alloc: Global, stations: &[Station]) -> Result<Vec<NodeLog>, NoMemory>
-    ensures { IfOk result (λ logs. logs.items ≡ logs_of (nodes_of stations.now)) }
+    ensures logs { IfOk result (λ logs. logs.items ≡ logs_of (nodes_of stations.now)) }
+    ensures live { OnOk result (All (λ station. IsUnbroken station → IsLive station) stations.now) }
 {
     let mut logs = Vec::new(alloc);
     for station in stations {
