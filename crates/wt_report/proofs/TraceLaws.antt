@@ -6,7 +6,7 @@ use Rattle.wt_proto.specs.declared.key.Key.{Key}
 use Rattle.wt_proto.specs.declared.message.Msg.{Msg}
 use Rattle.discrete_events.specs.Simulation.{Event}
 use Rattle.discrete_events.specs.World.{events_in, least}
-use Rattle.discrete_events.specs.Serial.{is_for, node_after, serial_step, serial}
+use Rattle.discrete_events.specs.Serial.{is_for, node_after, serial_step}
 use Rattle.discrete_events.specs.Laws.{IsIn, Reacts, IsSimulation}
 use Rattle.discrete_events.proofs.Lists.{from_map}
 use Rattle.discrete_events.proofs.Events.{IsEventBelow, event_is, event_to, least_in}
