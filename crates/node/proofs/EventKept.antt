@@ -1,8 +1,9 @@
 -- What an event as a whole keeps of its node, and that the wind tunnel is a simulation.
-use Rattle.std.proofs.Common.{◌≡◌, ◌≢◌, ℕ, suc, ◌+◌, ◌*◌, ◌^◌, ◌<◌, ◌≤◌, Bool, true, false, cond, List, [], ◌∷◌, length, Option, Some, None, refl, ap, sym, ◌∙◌, subst, arith}
+use Rattle.std.proofs.Common.{◌≡◌, ◌≢◌, ℕ, zero, suc, ◌+◌, ◌*◌, ◌^◌, ◌<◌, ◌≤◌, Bool, true, false, cond, List, [], ◌∷◌, length, Option, Some, None, refl, ap, sym, ◌∙◌, subst, arith}
 use Rattle.std.specs.Prelude.{All, ◌==◌, map}
 use Rattle.std.specs.List.{AllByRecursion}
 use Rattle.std.proofs.lemmas.Bool.{eqb-true}
+use Rattle.std.proofs.lemmas.List.Elements.{All-push}
 use Rattle.std.specs.declared.cmp.Ordering.TheVariants.{Less}
 use Rattle.wt_params.specs.declared.parts.MachineParts.{MachineParts}
 use Rattle.wt_params.specs.Machine.{IsMachine}
@@ -16,7 +17,9 @@ use Rattle.wt_proto.specs.declared.mode.Mode.TheVariants.{Running, Waiting, InBa
 use Rattle.wt_proto.specs.KeyOrder.{key_cmp}
 use Rattle.wt_proto.specs.Messages.{MsgFits, StampedFits}
 use Rattle.wt_network.specs.Latency.{stamp_of}
+use Rattle.wt_trace.specs.declared.record.Record.{Record}
 use Rattle.wt_trace.specs.declared.record.What.{What}
+use Rattle.wt_trace.specs.EventLine.{WhatFits, RecordFits}
 use Rattle.discrete_events.specs.Simulation.{Event, Step, Arrival, Message, step_key}
 use Rattle.discrete_events.specs.KeyTimes.{earlier_less, before_step}
 use Rattle.discrete_events.specs.Laws.{IsDue, IsSent, Reacts, IsSimulation}
@@ -54,6 +57,7 @@ module _ (machine : MachineParts) (old : NodeState) (is : IsNode machine old) (u
     directory = is.directory;
     barrier = is.barrier;
     mode = begun_mode old.mode is.mode;
+    logged = is.logged;
   }
     where
       begun_mode : (mode : Mode) → ModeFits machine old mode → ModeFits machine (counted_step key old) mode
@@ -77,6 +81,7 @@ module _ (machine : MachineParts) (old : NodeState) (is : IsNode machine old) (u
     directory = is.directory;
     barrier = is.barrier;
     mode = begun_mode old.mode is.mode;
+    logged = is.logged;
   }
     where
       begun_mode : (mode : Mode) → ModeFits machine old mode → ModeFits machine (counted_message key old) mode
@@ -136,9 +141,25 @@ ended_mode machine key what sends handled (Stopped cause) fits = tt
 sent_fits : (n sent now events later count : ℕ) → now ≡ sent → later ≡ events → count ≤ n → sent + n ≤ n * events → now + count ≤ n * later
 sent_fits n sent now events later count now_is later_is few room = rw later_is (omega (arith, now_is))
 
+-- the messages that an event sends, with their stamps
+stamps_fit : (machine : MachineParts) (time from sequence : ℕ) (sends : List Send) → from < machine.nodes → All (SendFits machine time) sends →
+    All (StampedFits machine) (stamped_from machine from sequence sends)
+stamps_fit machine time from sequence [] there fits k d below = absurd (omega arith)
+stamps_fit machine time from sequence (send ∷ rest) there fits zero d below =
+    let one : SendFits machine time send = fits 0 send (omega arith) in
+    record { to = one.sendable.to; from = there; msg = one.msg }
+stamps_fit machine time from sequence (send ∷ rest) there fits (suc k) d below =
+    stamps_fit machine time from (sequence + 1) rest there (λ j e within. fits (suc j) e (omega arith)) k d (omega arith)
+
+-- the log with one record more, where the node is traced
+logged_fits : (machine : MachineParts) (traced : Bool) (item : Record) (log : List Record) → RecordFits machine item → All (RecordFits machine) log →
+    All (RecordFits machine) (logged traced item log)
+logged_fits machine true item log one all = All-push (RecordFits machine) log item all one
+logged_fits machine false item log one all = all
+
 pub ended_is_node : (machine : MachineParts) (time least : ℕ) (begun : NodeState) (key : Key) (what : What) (handled : Handled) → Went machine time least begun handled →
-    begun.counters.sent + (machine.nodes + 1) ≤ (machine.nodes + 1) * (begun.counters.steps + begun.counters.messages) → IsNode machine (ended key what (sends_of machine handled) handled)
-ended_is_node machine time least begun key what handled went room = record {
+    begun.counters.sent + (machine.nodes + 1) ≤ (machine.nodes + 1) * (begun.counters.steps + begun.counters.messages) → WhatFits machine what → IsNode machine (ended key what (sends_of machine handled) handled)
+ended_is_node machine time least begun key what handled went room its_own = record {
   numbers = went.sound.numbers;
   number = went.sound.number;
   aligned = went.sound.aligned;
@@ -169,6 +190,9 @@ ended_is_node machine time least begun key what handled went room = record {
   directory = went.sound.directory;
   barrier = went.sound.barrier;
   mode = ended_mode machine key what (sends_of machine handled) handled handled.node.mode went.sound.mode;
+  logged =
+      logged_fits machine handled.node.traced (record_with machine key what handled) handled.node.log
+      (record { what = its_own; sends = stamps_fit machine time handled.node.number handled.node.counters.sent handled.sends went.sound.number went.sends }) went.sound.logged;
 }
 
 -- every message is sent at its event or later, and comes later; to another node by the latency
@@ -204,11 +228,11 @@ module _ (machine : MachineParts) (numbers : IsMachine machine) (old : NodeState
   message_room = let sent = is.counts.sent in grind arith
 
   -- what an event leaves and sends keeps the laws
-  reacts_with : (time least : ℕ) (begun : NodeState) (key : Key) (what : What) (handled : Handled) → Went machine time least begun handled → key.time ≡ time → begun.number ≡ old.number → begun.last ≡ Some key → events_of begun ≡ suc (events_of old) →
+  reacts_with : (time least : ℕ) (begun : NodeState) (key : Key) (what : What) (handled : Handled) → Went machine time least begun handled → key.time ≡ time → begun.number ≡ old.number → begun.last ≡ Some key → events_of begun ≡ suc (events_of old) → WhatFits machine what →
       begun.counters.sent + (machine.nodes + 1) ≤ (machine.nodes + 1) * (begun.counters.steps + begun.counters.messages) → ((next : ℕ) → least ≤ next → key_cmp key (step_key (wind_tunnel machine) old next) ≡ Less) →
       Reacts (wind_tunnel machine) (IsNode machine) (Fits machine) old key (react_with machine key what handled).0 (map message_under_key (react_with machine key what handled).1)
-  reacts_with time least begun key what handled went at number last events room below = record {
-    sound = ended_is_node machine time least begun key what handled went room;
+  reacts_with time least begun key what handled went at number last events its_own room below = record {
+    sound = ended_is_node machine time least begun key what handled went room its_own;
     number = went.still.number ∙ number;
     handled = let steps = went.still.steps in let messages = went.still.messages in omega (arith, events);
     last = went.still.last ∙ last;
@@ -229,7 +253,7 @@ module _ (machine : MachineParts) (numbers : IsMachine machine) where
   steps node key is due =
       subst (λ (k : Key). Reacts (wind_tunnel machine) (IsNode machine) (Fits machine) node k (react_to_step machine node).0 (map message_under_key (react_to_step machine node).1)) (sym its_key)
       (reacts_with machine numbers node is due.unspent (step_time node) (suc (step_time node)) (counted_step (next_key machine node) node) (next_key machine node) _ _
-      (step_went machine node is due.unspent running (let e = due.early in let most = numbers.budget.at_most in omega (arith, at)) (next_key machine node)) refl refl refl (omega arith) (sent_room machine numbers node is due.unspent)
+      (step_went machine node is due.unspent running (let e = due.early in let most = numbers.budget.at_most in omega (arith, at)) (next_key machine node)) refl refl refl (omega arith) tt (sent_room machine numbers node is due.unspent)
       (λ next later. earlier_less (next_key machine node) (step_key (wind_tunnel machine) node next) (omega arith)))
     where
       at : step_time node ≡ key.time
@@ -248,7 +272,7 @@ module _ (machine : MachineParts) (numbers : IsMachine machine) where
       subst (λ (k : Key). Reacts (wind_tunnel machine) (IsNode machine) (Fits machine) node k (react_to_message machine node message.0 message.1).0 (map message_under_key (react_to_message machine node message.0 message.1).1)) (sym due.its_own.0)
       (reacts_with machine numbers node is due.unspent message.0.time message.0.time (counted_message message.0 node) message.0 _ _
       (message_went machine node is due.unspent message.0.time message.0.from message.1 message.0 (let e = due.early in let most = numbers.budget.at_most in omega (arith, ap (λ (k : Key). k.time) due.its_own.0)) due.its_own.2.from due.its_own.2.msg
-      (λ next e. subst (λ (k : Key). k.time ≤ next) due.its_own.0 (due.its_own.3 next e))) refl refl refl (omega arith) (message_room machine numbers node is due.unspent)
+      (λ next e. subst (λ (k : Key). k.time ≤ next) due.its_own.0 (due.its_own.3 next e))) refl refl refl (omega arith) due.its_own.2.msg (message_room machine numbers node is due.unspent)
       (λ next later. before_step (wind_tunnel machine) node message.0 next later (ap (λ (k : Key). k.to) (sym due.its_own.0) ∙ due.its_own.1) due.its_own.2.from))
 
   laws : IsSimulation (wind_tunnel machine) (IsNode machine) (Fits machine)

@@ -8,6 +8,7 @@ use Rattle.wt_proto.specs.declared.mode.Mode.{Mode}
 use Rattle.wt_proto.specs.declared.mode.Mode.TheVariants.{Running, Waiting, InBarrier, Stopped}
 use Rattle.target_cache.specs.Cached.{Cached}
 use Rattle.wt_stats.specs.declared.counters.Counters.{Counters}
+use Rattle.wt_trace.specs.EventLine.{RecordFits}
 use Rattle.node.specs.declared.state.NodeState.{NodeState}
 use Rattle.node.specs.declared.state.Send.{Send}
 use Rattle.node.specs.State.{events_of, step_in, next_step_of}
@@ -44,6 +45,7 @@ pub record HasBegun (machine : MachineParts) (seen : ℕ) (node : NodeState) : T
   pub directory : DirectoryFits machine node.number seen node.directory
   pub barrier : BarrierFits machine node.barrier
   pub mode : ModeFits machine node node.mode
+  pub logged : All (RecordFits machine) node.log
 
 -- what stays of a node through all of an event but its count
 pub record Same (old new : NodeState) : Type 0 where
@@ -114,6 +116,7 @@ module _ (machine : MachineParts) (seen : ℕ) (old : NodeState) (is : HasBegun 
     directory = rw messages directory_now;
     barrier = is.barrier;
     mode = fits;
+    logged = is.logged;
   }
 
   -- a node that has gone on to another instruction, and runs
@@ -132,4 +135,5 @@ module _ (machine : MachineParts) (seen : ℕ) (old : NodeState) (is : HasBegun 
     directory = rw messages directory_now;
     barrier = is.barrier;
     mode = rw running tt;
+    logged = is.logged;
   }

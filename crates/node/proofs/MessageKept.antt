@@ -129,6 +129,7 @@ module _ (machine : MachineParts) (time seen : ℕ) (old : NodeState) (is : HasB
       directory = rw messages (seen_more machine old.number seen old.counters.messages old is.seen_before is.directory);
       barrier = is.barrier;
       mode = dropped_mode block counters old.mode is.mode;
+      logged = is.logged;
     });
     sends = sends;
     few = few;
@@ -170,6 +171,7 @@ module _ (machine : MachineParts) (time seen : ℕ) (old : NodeState) (is : HasB
         directory = rw messages (seen_more machine old.number seen old.counters.messages old is.seen_before is.directory);
         barrier = fits;
         mode = same_mode machine old old.busy old.directory barrier counters old.mode is.mode;
+        logged = is.logged;
       }
 
       stays : Same old (with_barrier barrier old)
@@ -276,6 +278,7 @@ module _ (machine : MachineParts) (time seen : ℕ) (old : NodeState) (is : HasB
       directory = rw messages after_fits;
       barrier = is.barrier;
       mode = same_mode machine old busy (with_block msg.block (row_of old.directory from msg).home old.directory) old.barrier counters old.mode is.mode;
+      logged = is.logged;
     }
 
     row_sends : All (SendFits machine time) (map (sent_at time) (row_of old.directory from msg).sends)

@@ -73,6 +73,7 @@ sound_at_start machine loaded traced number image is for there found program siz
   };
   barrier = record { nodes = refl; arrived = tt };
   mode = tt;
+  logged = λ k d below. absurd (omega arith);
 }
 
 -- what the code knows of its node

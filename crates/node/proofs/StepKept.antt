@@ -143,6 +143,7 @@ module _ (machine : MachineParts) (time : ℕ) (old : NodeState) (is : HasBegun 
       directory = rw messages is.directory;
       barrier = is.barrier;
       mode = record { exists = exists; fetched = fetched; absent = absent; asks = asks };
+      logged = is.logged;
     };
     sends = sends_one machine time (home_of machine block) block body early (home_below machine block is.numbers) msg;
     few = omega arith;

@@ -11,6 +11,7 @@ use Rattle.wt_proto.specs.declared.mode.Mode.{Mode}
 use Rattle.wt_proto.specs.declared.mode.Mode.TheVariants.{Waiting, InBarrier}
 use Rattle.wt_proto.specs.Messages.{MsgFits}
 use Rattle.wt_stats.specs.declared.counters.Counters.{Counters}
+use Rattle.wt_trace.specs.EventLine.{RecordFits}
 use Rattle.block_tags.specs.declared.tag.Tag.TheVariants.{Invalid}
 use Rattle.target_cache.specs.Cached.{Cached, IsCached, tag_of}
 use Rattle.dir1sw.specs.declared.home.HomeBlock.{HomeBlock}
@@ -143,6 +144,8 @@ pub record IsNode (machine : MachineParts) (node : NodeState) : Type 0 where
   pub directory : DirectoryFits machine node.number node.counters.messages node.directory
   pub barrier : BarrierFits machine node.barrier
   pub mode : ModeFits machine node node.mode
+  -- The messages of what was recorded are ones that the machine can have.
+  pub logged : All (RecordFits machine) node.log
 
 -- a block that a processor waits for exists
 abbrev pub WaitsForABlock : MachineParts → Mode → Type 0

@@ -1,12 +1,16 @@
 ghost use Rattle.std.specs.Prelude.{◌≡◌};
 ghost use Rattle.wt_listing.specs.declared.fault.ListingFault.TheVariants.{NoMemory};
 
+use thiserror::Error;
+
 /// Why a text wasn't written whole.
-#[derive(Clone, Copy, Debug, PartialEq, Eq)]
+#[derive(Clone, Copy, Debug, PartialEq, Eq, Error)]
 pub enum ListingFault {
     /// The sink failed.
+    #[error("the sink failed")]
     Failed,
     /// Memory was wanted and refused.
+    #[error("out of memory")]
     NoMemory,
 }
 

@@ -1,7 +1,7 @@
 //! The texts that show a machine with its images, and the words of an image, written to a sink.
 //!
 //! Each line is put together and written by one call of the sink, so no text is ever kept whole. What a call
-//! that writes a text promises is `Writes` of `specs/Writes.antt`.
+//! that writes a text promises is `Writes` of `wt_outside`.
 #![tactic(auto)]
 
 mod fault;

@@ -1,7 +1,8 @@
 ghost use Rattle.std.specs.Prelude.{◌≡◌, flat_map, IfOk};
 ghost use Rattle.std.specs.List.{enumerate_from};
 ghost use Rattle.image_loader.specs.Images.{IsFor};
-ghost use Rattle.wt_listing.specs.Writes.{Writes};
+ghost use Rattle.wt_outside.specs.Writes.{Writes};
+ghost use Rattle.wt_listing.specs.declared.fault.ListingFault.TheVariants.{Failed};
 ghost use Rattle.wt_listing.specs.Listing.{version_line, field_line_of, image_line_of, machine_text};
 
 use crate::fault::ListingFault;
@@ -22,7 +23,7 @@ pub fn write_machine<K: Sink>(
     out: &mut K,
 ) -> Result<(), ListingFault>
     requires { IsFor machine.now loaded.now }
-    ensures { Writes (machine_text machine.now loaded.now) result (K.faults out.old) (K.faults out.new) (K.written out.old) (K.written out.new) }
+    ensures { Writes Failed (machine_text machine.now loaded.now) result (K.faults out.old) (K.faults out.new) (K.written out.old) (K.written out.new) }
 {
     write_version(alloc, out)?;
     write_fields(alloc, &machine.parts(), &Field::all(), out)?;
@@ -30,7 +31,7 @@ pub fn write_machine<K: Sink>(
 }
 
 fn write_version<K: Sink>(alloc: Global, out: &mut K) -> Result<(), ListingFault>
-    ensures { Writes version_line result (K.faults out.old) (K.faults out.new) (K.written out.old) (K.written out.new) }
+    ensures { Writes Failed version_line result (K.faults out.old) (K.faults out.new) (K.written out.old) (K.written out.new) }
 {
     let line = Line::new(alloc, b"version 1\n")?;
     write_line(&line, out)
@@ -43,7 +44,7 @@ fn write_fields<K: Sink>(
     fields: &[Field],
     out: &mut K,
 ) -> Result<(), ListingFault>
-    ensures { Writes (flat_map (field_line_of machine.now) fields.now) result (K.faults out.old) (K.faults out.new) (K.written out.old) (K.written out.new) }
+    ensures { Writes Failed (flat_map (field_line_of machine.now) fields.now) result (K.faults out.old) (K.faults out.new) (K.written out.old) (K.written out.new) }
 {
     for field in fields {
         write_field(alloc, machine, *field, out)?;
@@ -57,7 +58,7 @@ fn write_field<K: Sink>(
     field: Field,
     out: &mut K,
 ) -> Result<(), ListingFault>
-    ensures { Writes (field_line_of machine.now field) result (K.faults out.old) (K.faults out.new) (K.written out.old) (K.written out.new) }
+    ensures { Writes Failed (field_line_of machine.now field) result (K.faults out.old) (K.faults out.new) (K.written out.old) (K.written out.new) }
 {
     let line = field_line(alloc, machine, field)?;
     write_line(&line, out)
@@ -76,7 +77,7 @@ fn field_line(alloc: Global, machine: &MachineParts, field: Field) -> Result<Lin
 
 /// Writes a line for each of these images.
 fn write_images<K: Sink>(alloc: Global, images: &[Image], out: &mut K) -> Result<(), ListingFault>
-    ensures { Writes (flat_map image_line_of (enumerate_from 0 images.now)) result (K.faults out.old) (K.faults out.new) (K.written out.old) (K.written out.new) }
+    ensures { Writes Failed (flat_map image_line_of (enumerate_from 0 images.now)) result (K.faults out.old) (K.faults out.new) (K.written out.old) (K.written out.new) }
 {
     for (number, image) in images.iter().enumerate() {
         write_image(alloc, number, image, out)?;
@@ -90,7 +91,7 @@ fn write_image<K: Sink>(
     image: &Image,
     out: &mut K,
 ) -> Result<(), ListingFault>
-    ensures { Writes (image_line_of (number, image.now)) result (K.faults out.old) (K.faults out.new) (K.written out.old) (K.written out.new) }
+    ensures { Writes Failed (image_line_of (number, image.now)) result (K.faults out.old) (K.faults out.new) (K.written out.old) (K.written out.new) }
 {
     let line = image_line(alloc, number, image)?;
     write_line(&line, out)

@@ -1,5 +1,6 @@
 ghost use Rattle.std.specs.Prelude.{◌≡◌, ◌<◌, ◌/◌, flat_map, length, IfOk};
-ghost use Rattle.wt_listing.specs.Writes.{Writes};
+ghost use Rattle.wt_outside.specs.Writes.{Writes};
+ghost use Rattle.wt_listing.specs.declared.fault.ListingFault.TheVariants.{Failed};
 ghost use Rattle.wt_listing.specs.Listing.{word_line_of, word_of, segment_text, words_text};
 
 use crate::fault::ListingFault;
@@ -19,7 +20,7 @@ const WORD_BYTES: usize = 4;
 /// `0x00000000 0x04100513 addi x10, x0, 65`. Only the bytes that a segment has of its own are shown, and of these no
 /// rest of fewer than four. Addresses wrap.
 pub fn write_words<K: Sink>(alloc: Global, image: &Image, out: &mut K) -> Result<(), ListingFault>
-    ensures { Writes (words_text image.now) result (K.faults out.old) (K.faults out.new) (K.written out.old) (K.written out.new) }
+    ensures { Writes Failed (words_text image.now) result (K.faults out.old) (K.faults out.new) (K.written out.old) (K.written out.new) }
 {
     write_segments(alloc, image.segments.get(), out)
 }
@@ -29,7 +30,7 @@ fn write_segments<K: Sink>(
     segments: &[Segment],
     out: &mut K,
 ) -> Result<(), ListingFault>
-    ensures { Writes (flat_map segment_text segments.now) result (K.faults out.old) (K.faults out.new) (K.written out.old) (K.written out.new) }
+    ensures { Writes Failed (flat_map segment_text segments.now) result (K.faults out.old) (K.faults out.new) (K.written out.old) (K.written out.new) }
 {
     for segment in segments {
         write_segment(alloc, segment, out)?;
@@ -39,7 +40,7 @@ fn write_segments<K: Sink>(
 
 /// Writes the whole words of a segment's own bytes.
 fn write_segment<K: Sink>(alloc: Global, segment: &Segment, out: &mut K) -> Result<(), ListingFault>
-    ensures { Writes (segment_text segment.now) result (K.faults out.old) (K.faults out.new) (K.written out.old) (K.written out.new) }
+    ensures { Writes Failed (segment_text segment.now) result (K.faults out.old) (K.faults out.new) (K.written out.old) (K.written out.new) }
 {
     let bytes = segment.bytes.get();
     let mut address = segment.at;
@@ -64,7 +65,7 @@ fn write_word<K: Sink>(
     word: u32,
     out: &mut K,
 ) -> Result<(), ListingFault>
-    ensures { Writes (word_line_of address word) result (K.faults out.old) (K.faults out.new) (K.written out.old) (K.written out.new) }
+    ensures { Writes Failed (word_line_of address word) result (K.faults out.old) (K.faults out.new) (K.written out.old) (K.written out.new) }
 {
     let line = word_line(alloc, address, word)?;
     write_line(&line, out)

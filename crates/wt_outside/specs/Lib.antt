@@ -5,3 +5,4 @@ pub mod Files
 pub mod Growth
 pub mod MemBytes
 pub mod MemFiles
+pub mod Writes

@@ -6,4 +6,3 @@ pub mod TextLemmas
 pub mod TraceLaws
 pub mod TraceLemmas
 pub mod TraceOrder
-pub mod WriteLemmas

@@ -7,7 +7,7 @@ use Rattle.node.specs.declared.state.NodeState.{NodeState}
 use Rattle.node.specs.State.{register}
 use Rattle.wt_report.specs.Memory.{register_text}
 use Rattle.wt_report.proofs.TextLemmas.{number_at}
-use Rattle.wt_report.proofs.WriteLemmas.{text_more}
+use Rattle.wt_outside.proofs.WriteLemmas.{text_more}
 
 pub register_more : (node : NodeState) (r word : ℕ) (start line spaced more : List ℕ) → r < 32 → word ≡ register node r → line ≡ start ++ flat_map (register_text node) (take r (range_with_len 0 32)) → spaced ≡ line ++ codes " " → more ≡ spaced ++ eight_digits word → more ≡ start ++ flat_map (register_text node) (take (r + 1) (range_with_len 0 32))
 register_more node r word start line spaced more within is so_far spaced_is added =

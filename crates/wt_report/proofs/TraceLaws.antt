@@ -1,46 +1,25 @@
 -- What the serial run records.
-use Rattle.std.proofs.Common.{◌≡◌, ℕ, zero, suc, Bool, true, false, cond, List, [], ◌∷◌, map, Option, Some, None, refl, ap, sym, ◌∙◌, subst, arith, eqb-true}
-use Rattle.std.specs.Prelude.{All}
-use Rattle.std.specs.List.{AllByRecursion}
-use Rattle.std.proofs.lemmas.List.Elements.{All-append}
+use Rattle.std.proofs.Common.{◌≡◌, Bool, true, false, cond, map, Some, refl, ap, sym, ◌∙◌, subst, arith, eqb-true}
 use Rattle.wt_params.specs.declared.parts.MachineParts.{MachineParts}
 use Rattle.wt_params.specs.Machine.{IsMachine}
 use Rattle.wt_proto.specs.declared.key.Key.{Key}
 use Rattle.wt_proto.specs.declared.message.Msg.{Msg}
-use Rattle.wt_proto.specs.declared.message.Stamped.{Stamped}
-use Rattle.wt_proto.specs.Messages.{StampedFits}
-use Rattle.wt_trace.specs.declared.record.Record.{Record}
-use Rattle.wt_trace.specs.EventLine.{WhatFits, RecordFits}
-use Rattle.discrete_events.specs.Simulation.{Event, Step, Arrival}
+use Rattle.discrete_events.specs.Simulation.{Event}
 use Rattle.discrete_events.specs.World.{events_in, least}
-use Rattle.discrete_events.specs.Serial.{is_for, node_after, after_least, serial_step, serial}
-use Rattle.discrete_events.specs.Laws.{IsIn, IsSent, Reacts, IsSimulation}
+use Rattle.discrete_events.specs.Serial.{is_for, node_after, serial_step}
+use Rattle.discrete_events.specs.Laws.{IsIn, Reacts, IsSimulation}
 use Rattle.discrete_events.proofs.Lists.{from_map}
 use Rattle.discrete_events.proofs.Events.{IsEventBelow, event_is, event_to, least_in}
 use Rattle.discrete_events.proofs.Stations as stations
 use Rattle.discrete_events.proofs.Numbered.{numbered_same}
-use Rattle.discrete_events.proofs.SerialRun.{serial-zero, serial-suc, moved, step_of_least, quantum_or_not, world_of_serial}
+use Rattle.discrete_events.proofs.SerialRun.{moved, step_of_least, quantum_or_not}
 use Rattle.node.specs.declared.state.NodeState.{NodeState}
-use Rattle.node.specs.React.{logged, react, record_of, message_under_key, wind_tunnel}
+use Rattle.node.specs.React.{react, message_under_key, wind_tunnel}
 use Rattle.node.specs.Sound.{IsNode}
 use Rattle.node.specs.Laws.{Fits, IsDueAt, IsCounted}
 use Rattle.node.proofs.EventKept.{machines_are_simulations}
 use Rattle.quantum.specs.World.{World}
 use Rattle.wt_report.specs.Trace.{IsWorldOf}
-use Rattle.wt_report.proofs.TraceLemmas.{each_of_all}
-
-what_fits : (machine : MachineParts) (node : NodeState) (key : Key) (event : Event Msg) → IsDueAt machine node key event → WhatFits machine (record_of machine node event).what
-unfolding record_of
-what_fits machine node key Step due = tt
-what_fits machine node key (Arrival message) due = due.its_own.2.msg
-
-sends_fit : (machine : MachineParts) (node : NodeState) (key : Key) (sends : List Stamped) → AllByRecursion (IsSent (wind_tunnel machine) (Fits machine) node key) (map message_under_key sends) → AllByRecursion (StampedFits machine) sends
-sends_fit machine node key [] sent = tt
-sends_fit machine node key (send ∷ sends) sent = (sent.0.fits, sends_fit machine node key sends sent.1)
-
-logged_fits : (machine : MachineParts) (traced : Bool) (item : Record) (log : List Record) → RecordFits machine item → All (RecordFits machine) log → All (RecordFits machine) (logged traced item log)
-logged_fits machine true item log one all = All-append (RecordFits machine) log (item ∷ []) all (each_of_all (RecordFits machine) (item ∷ []) (one, tt))
-logged_fits machine false item log one all = all
 
 module _ (machine : MachineParts) (is : IsMachine machine) where
   pub laws : IsSimulation (wind_tunnel machine) (IsNode machine) (Fits machine)
@@ -64,12 +43,6 @@ module _ (machine : MachineParts) (is : IsMachine machine) where
     pub counted : IsCounted machine at.node key event
     counted = (machines_are_simulations machine is).counts at.node key event (ok.stations at.node at.member).sound due
 
-    item_fits : RecordFits machine (record_of machine at.node event)
-    item_fits = record {
-      what = what_fits machine at.node key event due;
-      sends = subst (All (StampedFits machine)) (sym counted.recorded_sends) (each_of_all (StampedFits machine) (react machine at.node event).1 (sends_fit machine at.node key (react machine at.node event).1 reacts.sent));
-    }
-
     -- only that node changes
     its_node : (node : NodeState) → IsIn node world.nodes → is_for (wind_tunnel machine) key node ≡ true → node ≡ at.node
     its_node node member e = numbered_same (wind_tunnel machine) 0 world.nodes node at.node ok.numbered member at.member (eqb-true _ _ e ∙ named)
@@ -90,19 +63,3 @@ module _ (machine : MachineParts) (is : IsMachine machine) where
 
         of : (old : NodeState) × IsIn old world.nodes × (node ≡ node_after (wind_tunnel machine) key event old) → Q node
         of (old, there, e) = subst Q (sym e) (by old there (is_for (wind_tunnel machine) key old) refl)
-
-    fit_then : ((node : NodeState) → IsIn node world.nodes → All (RecordFits machine) node.log) → (node : NodeState) → IsIn node (serial_step (wind_tunnel machine) world).nodes → All (RecordFits machine) node.log
-    fit_then = goes_on (λ n. All (RecordFits machine) n.log) (λ n. All (RecordFits machine) n.log)
-        (λ all. subst (All (RecordFits machine)) (sym counted.log) (logged_fits machine at.node.traced (record_of machine at.node event) at.node.log item_fits all))
-        (λ node member other all. all)
-
-  -- the messages of all that a serial run records are ones that the machine can have
-  pub logs_fit : (n : ℕ) (world : World) → IsWorldOf machine world → ((node : NodeState) → IsIn node world.nodes → All (RecordFits machine) node.log) → (node : NodeState) → IsIn node (serial (wind_tunnel machine) n world).nodes → All (RecordFits machine) node.log
-  logs_fit zero world ok fit node member = fit node (subst (λ (w : World). IsIn node w.nodes) (serial-zero (wind_tunnel machine) world) member)
-  logs_fit (suc n) world ok fit node member =
-      by (serial (wind_tunnel machine) n world) (world_of_serial (wind_tunnel machine) (IsNode machine) (Fits machine) laws n world ok) (logs_fit n world ok fit) (least (events_in (wind_tunnel machine) (serial (wind_tunnel machine) n world))) refl
-      (subst (λ (w : World). IsIn node w.nodes) (serial-suc (wind_tunnel machine) n world) member)
-    where
-      by : (w : World) → IsWorldOf machine w → ((node : NodeState) → IsIn node w.nodes → All (RecordFits machine) node.log) → (o : Option (Key × Event Msg)) → least (events_in (wind_tunnel machine) w) ≡ o → IsIn node (serial_step (wind_tunnel machine) w).nodes → All (RecordFits machine) node.log
-      by w it so_far None none there = so_far node (subst (λ (v : World). IsIn node v.nodes) (ap (after_least (wind_tunnel machine) w) none) there)
-      by w it so_far (Some (key, event)) some there = fit_then w it key event some so_far node there

@@ -1,5 +1,5 @@
 -- What is known of all records of logs is known of those of the merge.
-use Rattle.std.proofs.Common.{zero, suc, Bool, true, false, cond, List, [], ◌∷◌, ◌++◌, map, refl, subst, arith}
+use Rattle.std.proofs.Common.{ℕ, zero, suc, Bool, true, false, cond, List, [], ◌∷◌, ◌++◌, map, subst, arith}
 use Rattle.std.specs.Prelude.{All}
 use Rattle.std.specs.List.{AllByRecursion}
 use Rattle.std.specs.Ordering.{is_lt}
@@ -9,9 +9,9 @@ use Rattle.wt_trace.specs.Merged.{with_record, by_key, records_of, merge_of}
 use Rattle.wt_params.specs.declared.parts.MachineParts.{MachineParts}
 use Rattle.wt_trace.specs.EventLine.{RecordFits}
 use Rattle.node.specs.declared.state.NodeState.{NodeState}
-use Rattle.quantum.specs.Stations.{StationModel}
+use Rattle.quantum.specs.Stations.{StationModel, IsUnbroken, IsLive}
 use Rattle.wt_report.specs.Report.{logs_of}
-use Rattle.wt_report.specs.Stations.{MayShowEvents, node_of, nodes_of}
+use Rattle.wt_report.specs.Stations.{IsStationOf, AreStationsOf, node_of, nodes_of}
 use Rattle.wt_report.proofs.StationLemmas.{mapped_twice}
 use Rattle.wt_trace.proofs.StableSorts.{all_of_each}
 
@@ -51,9 +51,15 @@ mapped_too P f [] all k d below = absurd (omega arith)
 mapped_too P f (x ∷ xs) all zero d below = all zero x (omega arith)
 mapped_too P f (x ∷ xs) all (suc k) d below = mapped_too P f xs (λ i e within. all (suc i) e (omega arith)) k d (omega arith)
 
--- the records of all nodes of a machine fit it, where those of its stations do
-pub events_fit : (machine : MachineParts) (stations : List StationModel) → MayShowEvents machine stations true → All (RecordFits machine) (merge_of (logs_of (nodes_of stations)))
-events_fit machine stations may =
+-- the records of a station of a machine fit it
+log_fits : (machine : MachineParts) (place : ℕ) (station : StationModel) → IsStationOf machine place station → IsLive station → All (RecordFits machine) station.node.state.log
+log_fits machine place station is live =
+    subst (λ (m : MachineParts). All (RecordFits m) station.node.state.log) is.machine_is live.sound.sound.logged
+
+-- so do those of all its nodes
+pub events_fit : (machine : MachineParts) (stations : List StationModel) → AreStationsOf machine stations → All (λ station. IsUnbroken station → IsLive station) stations → All (RecordFits machine) (merge_of (logs_of (nodes_of stations)))
+events_fit machine stations are live =
     merged_too (RecordFits machine) (logs_of (nodes_of stations))
     (subst (All (All (RecordFits machine))) (mapped_twice (λ (node : NodeState). node.log) node_of stations)
-    (mapped_too (All (RecordFits machine)) (λ (station : StationModel). station.node.state.log) stations (may refl)))
+    (mapped_too (All (RecordFits machine)) (λ (station : StationModel). station.node.state.log) stations
+    (λ k d below. log_fits machine k _ (are.each k d below) (live k d below (are.each k d below).unbroken))))

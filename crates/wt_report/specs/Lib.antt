@@ -2,4 +2,3 @@ pub mod Memory
 pub mod Report
 pub mod Stations
 pub mod Trace
-pub mod Writes

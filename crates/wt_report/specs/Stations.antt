@@ -1,7 +1,6 @@
 -- The stations of a machine that is reported on. Own.
-use Rattle.std.specs.Prelude.{◌≡◌, ℕ, ◌<◌, Bool, true, List, length, map, slice_index_or, All}
+use Rattle.std.specs.Prelude.{◌≡◌, ℕ, ◌<◌, List, length, map, slice_index_or}
 use Rattle.wt_params.specs.declared.parts.MachineParts.{MachineParts}
-use Rattle.wt_trace.specs.EventLine.{RecordFits}
 use Rattle.node.specs.declared.state.NodeState.{NodeState}
 use Rattle.quantum.specs.Stations.{StationModel, IsUnbroken, machine_of}
 
@@ -16,11 +15,6 @@ pub record AreStationsOf (machine : MachineParts) (stations : List StationModel)
   pub count : length stations ≡ machine.nodes
   pub each : (place : ℕ) (d : StationModel) → place < length stations →
       IsStationOf machine place (slice_index_or stations place d)
-
--- Where events are asked for, the messages of all that were recorded are ones that the machine can have.
-abbrev pub MayShowEvents : MachineParts → List StationModel → Bool → Type 0
-MayShowEvents machine stations asked =
-    asked ≡ true → All (λ (station : StationModel). All (RecordFits machine) station.node.state.log) stations
 
 abbrev pub node_of : StationModel → NodeState
 node_of station = station.node.state

@@ -1,12 +1,16 @@
 ghost use Rattle.std.specs.Prelude.{◌≡◌};
 ghost use Rattle.wt_report.specs.declared.fault.ReportFault.TheVariants.{NoMemory};
 
+use thiserror::Error;
+
 /// Why a report wasn't written whole.
-#[derive(Clone, Copy, Debug, PartialEq, Eq)]
+#[derive(Clone, Copy, Debug, PartialEq, Eq, Error)]
 pub enum ReportFault {
     /// The sink failed.
+    #[error("the sink failed")]
     Failed,
     /// Memory was wanted and refused.
+    #[error("out of memory")]
     NoMemory,
 }
 

@@ -1,7 +1,8 @@
 ghost use Rattle.std.specs.Prelude.{◌≡◌, ◌<◌, ◌++◌, length, codes, IfOk};
 ghost use Rattle.wt_text.specs.Text.{line_end};
 ghost use Rattle.wt_report.specs.Report.{outcome_text_of, outcome_line_of, number_line_of, head_text};
-ghost use Rattle.wt_report.specs.Writes.{Writes};
+ghost use Rattle.wt_outside.specs.Writes.{Writes};
+ghost use Rattle.wt_report.specs.declared.fault.ReportFault.TheVariants.{Failed};
 
 use crate::fault::ReportFault;
 use crate::write::write_line;
@@ -17,7 +18,7 @@ pub(crate) fn write_head<K: Sink>(
     head: &Head,
     out: &mut K,
 ) -> Result<(), ReportFault>
-    ensures { Writes (head_text head.now) result (K.faults out.old) (K.faults out.new) (K.written out.old) (K.written out.new) }
+    ensures { Writes Failed (head_text head.now) result (K.faults out.old) (K.faults out.new) (K.written out.old) (K.written out.new) }
 {
     write_outcome(alloc, head.outcome, out)?;
     write_number(alloc, b"events ", head.events, out)?;
@@ -26,7 +27,7 @@ pub(crate) fn write_head<K: Sink>(
 }
 
 fn write_outcome<K: Sink>(alloc: Global, outcome: Outcome, out: &mut K) -> Result<(), ReportFault>
-    ensures { Writes (outcome_line_of outcome) result (K.faults out.old) (K.faults out.new) (K.written out.old) (K.written out.new) }
+    ensures { Writes Failed (outcome_line_of outcome) result (K.faults out.old) (K.faults out.new) (K.written out.old) (K.written out.new) }
 {
     let line = outcome_line(alloc, outcome)?;
     write_line(&line, out)
@@ -60,7 +61,7 @@ fn write_number<K: Sink>(
     out: &mut K,
 ) -> Result<(), ReportFault>
     requires { 0 < length text.now }
-    ensures { Writes (number_line_of text.now number) result (K.faults out.old) (K.faults out.new) (K.written out.old) (K.written out.new) }
+    ensures { Writes Failed (number_line_of text.now number) result (K.faults out.old) (K.faults out.new) (K.written out.old) (K.written out.new) }
 {
     let line = number_line(alloc, text, number)?;
     write_line(&line, out)

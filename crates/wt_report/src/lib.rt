@@ -1,7 +1,7 @@
 //! The report of a machine that has run, written to a sink.
 //!
 //! Each line is put together and written by one call of the sink, so no text is ever kept whole. What a call that writes
-//! a part of it promises is `Writes` of `specs/Writes.antt`.
+//! a part of it promises is `Writes` of `wt_outside`.
 #![tactic(auto)]
 
 mod fault;

@@ -2,7 +2,8 @@ ghost use Rattle.std.specs.Prelude.{◌≡◌, ◌+◌, ◌^◌, ◌/◌, ◌<�
 ghost use Rattle.std.specs.List.{enumerate_from, list_all};
 ghost use Rattle.wt_report.specs.Memory.{group_line_of, group_of, group_text, groups_text, memory_text, node_memory_text, private_name, private_text, registers_line_of, registers_text};
 ghost use Rattle.wt_report.specs.Stations.{AreStationsOf, IsStationOf, nodes_of, node_of};
-ghost use Rattle.wt_report.specs.Writes.{Writes};
+ghost use Rattle.wt_outside.specs.Writes.{Writes};
+ghost use Rattle.wt_report.specs.declared.fault.ReportFault.TheVariants.{Failed};
 
 use crate::fault::ReportFault;
 use crate::shared::write_shared;
@@ -25,7 +26,7 @@ pub(crate) fn write_memory<K: Sink>(
     out: &mut K,
 ) -> Result<(), ReportFault>
     requires { AreStationsOf machine.now stations.now }
-    ensures { Writes (memory_text machine.now (nodes_of stations.now)) result (K.faults out.old) (K.faults out.new) (K.written out.old) (K.written out.new) }
+    ensures { Writes Failed (memory_text machine.now (nodes_of stations.now)) result (K.faults out.old) (K.faults out.new) (K.written out.old) (K.written out.new) }
 {
     write_own(alloc, machine, stations, out)?;
     write_shared(alloc, machine, stations, out)
@@ -39,7 +40,7 @@ fn write_own<K: Sink>(
     out: &mut K,
 ) -> Result<(), ReportFault>
     requires { AreStationsOf machine.now stations.now }
-    ensures { Writes (flat_map node_memory_text (enumerate_from 0 (nodes_of stations.now))) result (K.faults out.old) (K.faults out.new) (K.written out.old) (K.written out.new) }
+    ensures { Writes Failed (flat_map node_memory_text (enumerate_from 0 (nodes_of stations.now))) result (K.faults out.old) (K.faults out.new) (K.written out.old) (K.written out.new) }
 {
     for (place, station) in stations.iter().enumerate() {
         write_station(alloc, machine, place, station, out)?;
@@ -56,7 +57,7 @@ fn write_station<K: Sink>(
     out: &mut K,
 ) -> Result<(), ReportFault>
     requires { IsStationOf machine.now place station.now }
-    ensures { Writes (node_memory_text (place, node_of station.now)) result (K.faults out.old) (K.faults out.new) (K.written out.old) (K.written out.new) }
+    ensures { Writes Failed (node_memory_text (place, node_of station.now)) result (K.faults out.old) (K.faults out.new) (K.written out.old) (K.written out.new) }
 {
     write_node(alloc, machine, place, station.node(), out)
 }
@@ -69,7 +70,7 @@ fn write_node<K: Sink>(
     out: &mut K,
 ) -> Result<(), ReportFault>
     requires { length node.now.state.private ≡ machine.now.private_bytes }
-    ensures { Writes (node_memory_text (place, node.now.state)) result (K.faults out.old) (K.faults out.new) (K.written out.old) (K.written out.new) }
+    ensures { Writes Failed (node_memory_text (place, node.now.state)) result (K.faults out.old) (K.faults out.new) (K.written out.old) (K.written out.new) }
 {
     write_registers(alloc, place, node, out)?;
     write_private(alloc, machine, place, node, out)
@@ -83,7 +84,7 @@ fn write_private<K: Sink>(
     out: &mut K,
 ) -> Result<(), ReportFault>
     requires { length node.now.state.private ≡ machine.now.private_bytes }
-    ensures { Writes (private_text (place, node.now.state)) result (K.faults out.old) (K.faults out.new) (K.written out.old) (K.written out.new) }
+    ensures { Writes Failed (private_text (place, node.now.state)) result (K.faults out.old) (K.faults out.new) (K.written out.old) (K.written out.new) }
 {
     prove!(machine.private_bytes() <= 4_194_304);
     let name = private_name(alloc, place)?;
@@ -104,7 +105,7 @@ fn write_registers<K: Sink>(
     node: &Node,
     out: &mut K,
 ) -> Result<(), ReportFault>
-    ensures { Writes (registers_line_of place node.now.state) result (K.faults out.old) (K.faults out.new) (K.written out.old) (K.written out.new) }
+    ensures { Writes Failed (registers_line_of place node.now.state) result (K.faults out.old) (K.faults out.new) (K.written out.old) (K.written out.new) }
 {
     let line = registers_line(alloc, place, node)?;
     write_line(&line, out)
@@ -142,7 +143,7 @@ pub(crate) fn write_groups<K: Sink>(
 ) -> Result<(), ReportFault>
     requires named { 0 < length memory.now }
     requires inside { address + length bytes.now ≤ 2 ^ 32 }
-    ensures { Writes (groups_text memory.now address bytes.now) result (K.faults out.old) (K.faults out.new) (K.written out.old) (K.written out.new) }
+    ensures { Writes Failed (groups_text memory.now address bytes.now) result (K.faults out.old) (K.faults out.new) (K.written out.old) (K.written out.new) }
 {
     for number in 0..bytes.len() / GROUP_BYTES {
         let at = address + (GROUP_BYTES * number) as u32;
@@ -168,7 +169,7 @@ fn write_group<K: Sink>(
     out: &mut K,
 ) -> Result<(), ReportFault>
     requires { 0 < length memory.now }
-    ensures { Writes (group_text memory.now address group.now) result (K.faults out.old) (K.faults out.new) (K.written out.old) (K.written out.new) }
+    ensures { Writes Failed (group_text memory.now address group.now) result (K.faults out.old) (K.faults out.new) (K.written out.old) (K.written out.new) }
 {
     if is_zero(group) {
         return Ok(());

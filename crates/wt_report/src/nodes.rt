@@ -4,7 +4,8 @@ ghost use Rattle.node.specs.Sound.{WaitsForABlock};
 ghost use Rattle.node.specs.State.{step_time};
 ghost use Rattle.wt_report.specs.Report.{state_text, processor_text, output_text, node_line_of, count_line_of, out_line_of, node_text, nodes_text};
 ghost use Rattle.wt_report.specs.Stations.{AreStationsOf, IsStationOf, nodes_of, node_of};
-ghost use Rattle.wt_report.specs.Writes.{Writes};
+ghost use Rattle.wt_outside.specs.Writes.{Writes};
+ghost use Rattle.wt_report.specs.declared.fault.ReportFault.TheVariants.{Failed};
 
 use crate::fault::ReportFault;
 use crate::total::sums;
@@ -27,7 +28,7 @@ pub(crate) fn write_nodes<K: Sink>(
     out: &mut K,
 ) -> Result<(), ReportFault>
     requires { AreStationsOf machine.now stations.now }
-    ensures { Writes (nodes_text machine.now (nodes_of stations.now)) result (K.faults out.old) (K.faults out.new) (K.written out.old) (K.written out.new) }
+    ensures { Writes Failed (nodes_text machine.now (nodes_of stations.now)) result (K.faults out.old) (K.faults out.new) (K.written out.old) (K.written out.new) }
 {
     for (place, station) in stations.iter().enumerate() {
         write_station(alloc, machine, place, station, out)?;
@@ -44,7 +45,7 @@ fn write_station<K: Sink>(
     out: &mut K,
 ) -> Result<(), ReportFault>
     requires { IsStationOf machine.now place station.now }
-    ensures { Writes (node_text machine.now (place, node_of station.now)) result (K.faults out.old) (K.faults out.new) (K.written out.old) (K.written out.new) }
+    ensures { Writes Failed (node_text machine.now (place, node_of station.now)) result (K.faults out.old) (K.faults out.new) (K.written out.old) (K.written out.new) }
 {
     write_node(alloc, machine, place, station.node(), out)
 }
@@ -58,7 +59,7 @@ fn write_node<K: Sink>(
 ) -> Result<(), ReportFault>
     requires machine { node.now.machine ≡ machine.now }
     requires whole { IsWhole node.now }
-    ensures { Writes (node_text machine.now (place, node.now.state)) result (K.faults out.old) (K.faults out.new) (K.written out.old) (K.written out.new) }
+    ensures { Writes Failed (node_text machine.now (place, node.now.state)) result (K.faults out.old) (K.faults out.new) (K.written out.old) (K.written out.new) }
 {
     write_processor(alloc, machine, place, node, out)?;
     write_counts(alloc, place, node, out)?;
@@ -74,7 +75,7 @@ fn write_processor<K: Sink>(
 ) -> Result<(), ReportFault>
     requires machine { node.now.machine ≡ machine.now }
     requires whole { IsWhole node.now }
-    ensures { Writes (node_line_of machine.now place node.now.state) result (K.faults out.old) (K.faults out.new) (K.written out.old) (K.written out.new) }
+    ensures { Writes Failed (node_line_of machine.now place node.now.state) result (K.faults out.old) (K.faults out.new) (K.written out.old) (K.written out.new) }
 {
     let line = node_line(alloc, machine, place, node)?;
     write_line(&line, out)
@@ -135,7 +136,7 @@ fn write_counts<K: Sink>(
     node: &Node,
     out: &mut K,
 ) -> Result<(), ReportFault>
-    ensures { Writes (count_line_of place node.now.state) result (K.faults out.old) (K.faults out.new) (K.written out.old) (K.written out.new) }
+    ensures { Writes Failed (count_line_of place node.now.state) result (K.faults out.old) (K.faults out.new) (K.written out.old) (K.written out.new) }
 {
     let line = count_line(alloc, place, node)?;
     write_line(&line, out)
@@ -158,7 +159,7 @@ fn write_output<K: Sink>(
     node: &Node,
     out: &mut K,
 ) -> Result<(), ReportFault>
-    ensures { Writes (out_line_of place node.now.state) result (K.faults out.old) (K.faults out.new) (K.written out.old) (K.written out.new) }
+    ensures { Writes Failed (out_line_of place node.now.state) result (K.faults out.old) (K.faults out.new) (K.written out.old) (K.written out.new) }
 {
     let line = out_line(alloc, place, node)?;
     write_line(&line, out)

@@ -1,7 +1,8 @@
 ghost use Rattle.wt_report.specs.Memory.{memory_text};
 ghost use Rattle.wt_report.specs.Report.{body_text, if_asked, report, rest_text, trace_text};
-ghost use Rattle.wt_report.specs.Stations.{AreStationsOf, MayShowEvents, nodes_of};
-ghost use Rattle.wt_report.specs.Writes.{Writes};
+ghost use Rattle.wt_report.specs.Stations.{AreStationsOf, nodes_of};
+ghost use Rattle.wt_outside.specs.Writes.{Writes};
+ghost use Rattle.wt_report.specs.declared.fault.ReportFault.TheVariants.{Failed};
 
 use crate::fault::ReportFault;
 use crate::head::write_head;
@@ -26,9 +27,8 @@ pub fn write_report<K: Sink>(
     options: &Options,
     out: &mut K,
 ) -> Result<(), ReportFault>
-    requires stations { AreStationsOf machine.now stations.now }
-    requires events { MayShowEvents machine.now stations.now options.now.trace }
-    ensures { Writes (report machine.now head.now (nodes_of stations.now) options.now) result (K.faults out.old) (K.faults out.new) (K.written out.old) (K.written out.new) }
+    requires { AreStationsOf machine.now stations.now }
+    ensures { Writes Failed (report machine.now head.now (nodes_of stations.now) options.now) result (K.faults out.old) (K.faults out.new) (K.written out.old) (K.written out.new) }
 {
     write_head(alloc, head, out)?;
     write_rest(alloc, machine, stations, options, out)
@@ -42,9 +42,8 @@ fn write_rest<K: Sink>(
     options: &Options,
     out: &mut K,
 ) -> Result<(), ReportFault>
-    requires stations { AreStationsOf machine.now stations.now }
-    requires events { MayShowEvents machine.now stations.now options.now.trace }
-    ensures { Writes (rest_text machine.now (nodes_of stations.now) options.now) result (K.faults out.old) (K.faults out.new) (K.written out.old) (K.written out.new) }
+    requires { AreStationsOf machine.now stations.now }
+    ensures { Writes Failed (rest_text machine.now (nodes_of stations.now) options.now) result (K.faults out.old) (K.faults out.new) (K.written out.old) (K.written out.new) }
 {
     if options.summary {
         write_total(alloc, stations, out)
@@ -61,9 +60,8 @@ fn write_body<K: Sink>(
     options: &Options,
     out: &mut K,
 ) -> Result<(), ReportFault>
-    requires stations { AreStationsOf machine.now stations.now }
-    requires events { MayShowEvents machine.now stations.now options.now.trace }
-    ensures { Writes (body_text machine.now (nodes_of stations.now) options.now) result (K.faults out.old) (K.faults out.new) (K.written out.old) (K.written out.new) }
+    requires { AreStationsOf machine.now stations.now }
+    ensures { Writes Failed (body_text machine.now (nodes_of stations.now) options.now) result (K.faults out.old) (K.faults out.new) (K.written out.old) (K.written out.new) }
 {
     write_trace_if(alloc, machine, stations, options.trace, out)?;
     write_nodes(alloc, machine, stations, out)?;
@@ -79,9 +77,8 @@ fn write_trace_if<K: Sink>(
     asked: bool,
     out: &mut K,
 ) -> Result<(), ReportFault>
-    requires stations { AreStationsOf machine.now stations.now }
-    requires events { MayShowEvents machine.now stations.now asked }
-    ensures { Writes (if_asked asked (trace_text machine.now (nodes_of stations.now))) result (K.faults out.old) (K.faults out.new) (K.written out.old) (K.written out.new) }
+    requires { AreStationsOf machine.now stations.now }
+    ensures { Writes Failed (if_asked asked (trace_text machine.now (nodes_of stations.now))) result (K.faults out.old) (K.faults out.new) (K.written out.old) (K.written out.new) }
 {
     if asked {
         write_trace(alloc, machine, stations, out)
@@ -99,7 +96,7 @@ fn write_memory_if<K: Sink>(
     out: &mut K,
 ) -> Result<(), ReportFault>
     requires { AreStationsOf machine.now stations.now }
-    ensures { Writes (if_asked asked (memory_text machine.now (nodes_of stations.now))) result (K.faults out.old) (K.faults out.new) (K.written out.old) (K.written out.new) }
+    ensures { Writes Failed (if_asked asked (memory_text machine.now (nodes_of stations.now))) result (K.faults out.old) (K.faults out.new) (K.written out.old) (K.written out.new) }
 {
     if asked {
         write_memory(alloc, machine, stations, out)

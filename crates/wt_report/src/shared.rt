@@ -5,7 +5,8 @@ ghost use Rattle.dir1sw.specs.Homes.{block_of};
 ghost use Rattle.quantum.specs.Stations.{IsUnbroken, machine_of};
 ghost use Rattle.wt_report.specs.Memory.{block_text, first_copy, home_memory, shared_bytes, shared_text, writable_copy};
 ghost use Rattle.wt_report.specs.Stations.{AreStationsOf, IsStationOf, node_of, nodes_of};
-ghost use Rattle.wt_report.specs.Writes.{Writes};
+ghost use Rattle.wt_outside.specs.Writes.{Writes};
+ghost use Rattle.wt_report.specs.declared.fault.ReportFault.TheVariants.{Failed};
 
 use crate::fault::ReportFault;
 use crate::memory::write_groups;
@@ -24,7 +25,7 @@ pub(crate) fn write_shared<K: Sink>(
     out: &mut K,
 ) -> Result<(), ReportFault>
     requires { AreStationsOf machine.now stations.now }
-    ensures { Writes (shared_text machine.now (nodes_of stations.now)) result (K.faults out.old) (K.faults out.new) (K.written out.old) (K.written out.new) }
+    ensures { Writes Failed (shared_text machine.now (nodes_of stations.now)) result (K.faults out.old) (K.faults out.new) (K.written out.old) (K.written out.new) }
 {
     for block in 0..machine.blocks() as u32 {
         write_block(alloc, machine, stations, block, out)?;
@@ -41,7 +42,7 @@ fn write_block<K: Sink>(
 ) -> Result<(), ReportFault>
     requires stations { AreStationsOf machine.now stations.now }
     requires exists { block < machine.now.blocks }
-    ensures { Writes (block_text machine.now (nodes_of stations.now) block) result (K.faults out.old) (K.faults out.new) (K.written out.old) (K.written out.new) }
+    ensures { Writes Failed (block_text machine.now (nodes_of stations.now) block) result (K.faults out.old) (K.faults out.new) (K.written out.old) (K.written out.new) }
 {
     // So that no address wraps.
     prove!(machine.blocks() <= 65_536);

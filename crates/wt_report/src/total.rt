@@ -1,7 +1,8 @@
 ghost use Rattle.std.specs.Prelude.{◌≡◌, ◌++◌, map, IfOk, OnOk};
 ghost use Rattle.wt_report.specs.Report.{counters_of, counts_text, totals_text, total_line_of};
 ghost use Rattle.wt_report.specs.Stations.{nodes_of};
-ghost use Rattle.wt_report.specs.Writes.{Writes};
+ghost use Rattle.wt_outside.specs.Writes.{Writes};
+ghost use Rattle.wt_report.specs.declared.fault.ReportFault.TheVariants.{Failed};
 
 use crate::fault::ReportFault;
 use crate::write::write_line;
@@ -18,7 +19,7 @@ pub(crate) fn write_total<K: Sink>(
     stations: &[Station],
     out: &mut K,
 ) -> Result<(), ReportFault>
-    ensures { Writes (total_line_of (nodes_of stations.now)) result (K.faults out.old) (K.faults out.new) (K.written out.old) (K.written out.new) }
+    ensures { Writes Failed (total_line_of (nodes_of stations.now)) result (K.faults out.old) (K.faults out.new) (K.written out.old) (K.written out.new) }
 {
     let line = total_line(alloc, stations)?;
     write_line(&line, out)

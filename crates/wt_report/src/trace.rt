@@ -1,10 +1,12 @@
-ghost use Rattle.std.specs.Prelude.{◌≡◌, All, true, IfOk, flat_map};
+ghost use Rattle.std.specs.Prelude.{◌≡◌, All, IfOk, OnOk, flat_map};
 ghost use Rattle.wt_trace.specs.EventLine.{RecordFits, line_of};
 ghost use Rattle.wt_trace.specs.Merged.{merge_of};
+ghost use Rattle.quantum.specs.Stations.{IsLive, IsUnbroken};
 ghost use Rattle.wt_report.specs.Report.{logs_of, trace_text};
-ghost use Rattle.wt_report.specs.Stations.{MayShowEvents, nodes_of};
+ghost use Rattle.wt_report.specs.Stations.{AreStationsOf, nodes_of};
 ghost use Rattle.wt_report.specs.Trace.{TraceIsSerial};
-ghost use Rattle.wt_report.specs.Writes.{Writes};
+ghost use Rattle.wt_outside.specs.Writes.{Writes};
+ghost use Rattle.wt_report.specs.declared.fault.ReportFault.TheVariants.{Failed};
 
 use crate::fault::ReportFault;
 use crate::write::write_line;
@@ -21,8 +23,8 @@ pub(crate) fn write_trace<K: Sink>(
     stations: &[Station],
     out: &mut K,
 ) -> Result<(), ReportFault>
-    requires { MayShowEvents machine.now stations.now true }
-    ensures { Writes (trace_text machine.now (nodes_of stations.now)) result (K.faults out.old) (K.faults out.new) (K.written out.old) (K.written out.new) }
+    requires { AreStationsOf machine.now stations.now }
+    ensures { Writes Failed (trace_text machine.now (nodes_of stations.now)) result (K.faults out.old) (K.faults out.new) (K.written out.old) (K.written out.new) }
 {
     let events = merged(alloc, stations)?;
     write_events(alloc, machine, &events, out)
@@ -30,7 +32,8 @@ pub(crate) fn write_trace<K: Sink>(
 
 /// The records of all nodes. The logs are copied for it, and the copies are given back.
 fn merged(alloc: Global, stations: &[Station]) -> Result<NodeLog, NoMemory>
-    ensures { IfOk result (λ events. events ≡ merge_of (logs_of (nodes_of stations.now))) }
+    ensures events { IfOk result (λ events. events ≡ merge_of (logs_of (nodes_of stations.now))) }
+    ensures live { OnOk result (All (λ station. IsUnbroken station → IsLive station) stations.now) }
 {
     let logs = logs(alloc, stations)?;
     merge(alloc, &logs)
@@ -38,7 +41,8 @@ fn merged(alloc: Global, stations: &[Station]) -> Result<NodeLog, NoMemory>
 
 /// Copies of the logs of all nodes.
 fn logs(alloc: Global, stations: &[Station]) -> Result<Vec<NodeLog>, NoMemory>
-    ensures { IfOk result (λ logs. logs.items ≡ logs_of (nodes_of stations.now)) }
+    ensures logs { IfOk result (λ logs. logs.items ≡ logs_of (nodes_of stations.now)) }
+    ensures live { OnOk result (All (λ station. IsUnbroken station → IsLive station) stations.now) }
 {
     let mut logs = Vec::new(alloc);
     for station in stations {
@@ -55,7 +59,7 @@ fn write_events<K: Sink>(
     out: &mut K,
 ) -> Result<(), ReportFault>
     requires { All (RecordFits machine.now) events.now }
-    ensures { Writes (flat_map (line_of machine.now) events.now) result (K.faults out.old) (K.faults out.new) (K.written out.old) (K.written out.new) }
+    ensures { Writes Failed (flat_map (line_of machine.now) events.now) result (K.faults out.old) (K.faults out.new) (K.written out.old) (K.written out.new) }
 {
     let count = events.len();
     let mut i = 0;
@@ -74,7 +78,7 @@ fn write_event<K: Sink>(
     out: &mut K,
 ) -> Result<(), ReportFault>
     requires { RecordFits machine.now item.now }
-    ensures { Writes (line_of machine.now item.now) result (K.faults out.old) (K.faults out.new) (K.written out.old) (K.written out.new) }
+    ensures { Writes Failed (line_of machine.now item.now) result (K.faults out.old) (K.faults out.new) (K.written out.old) (K.written out.new) }
 {
     let line = line(alloc, item, machine)?;
     write_line(&line, out)

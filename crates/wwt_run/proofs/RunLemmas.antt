@@ -1,18 +1,15 @@
 -- A run of the engine from the start, and what it comes to.
-use Rattle.std.proofs.Common.{◌≡◌, ℕ, suc, zero, ◌+◌, ◌*◌, ◌<◌, Bool, Option, Result, Ok, Err, List, [], ◌∷◌, length, map, inl, inr, refl, ap, ◌∙◌, subst, arith}
+use Rattle.std.proofs.Common.{◌≡◌, ℕ, suc, zero, ◌+◌, ◌<◌, Bool, Option, Result, Ok, Err, List, [], ◌∷◌, length, ap, ◌∙◌, subst, arith}
 use Rattle.std.specs.Prelude.{All, slice_index_or}
 use Rattle.wt_params.specs.declared.parts.MachineParts.{MachineParts}
 use Rattle.wt_params.specs.Machine.{IsMachine}
 use Rattle.image_loader.specs.Images.{LoadedImages}
-use Rattle.discrete_events.specs.Laws.{IsIn, IsNumbered, IsWorld}
+use Rattle.discrete_events.specs.Laws.{IsNumbered, IsWorld}
 use Rattle.discrete_events.specs.Serial.{final}
-use Rattle.node.specs.declared.state.NodeState.{NodeState}
 use Rattle.node.specs.Laws.{Fits}
 use Rattle.node.specs.React.{wind_tunnel}
 use Rattle.node.specs.Sound.{IsNode}
-use Rattle.node.specs.Start.{start_node}
 use Rattle.wt_stats.specs.declared.head.Head.{Head}
-use Rattle.wt_trace.specs.EventLine.{RecordFits}
 use Rattle.wt_trace.specs.Merged.{merge_of}
 use Rattle.quantum.specs.Outcome.{head_of, outcome_of}
 use Rattle.quantum.specs.Stations.{StationModel}
@@ -20,11 +17,11 @@ use Rattle.quantum.specs.World.{World, start_of}
 use Rattle.engine.specs.Engine.{EngineModel, IsRunning, IsStationOf, IsUnbroken, nodes_of, world_of}
 use Rattle.wt_report.specs.declared.options.Options.{Options}
 use Rattle.wt_report.specs.declared.fault.ReportFault.{ReportFault}
+use Rattle.wt_report.specs.declared.fault.ReportFault.TheVariants.{Failed}
 use Rattle.wt_report.specs.Report.{logs_of, report}
-use Rattle.wt_report.specs.Writes.{Writes}
 use Rattle.wt_outside.specs.Growth.{Grows}
+use Rattle.wt_outside.specs.Writes.{Writes}
 use Rattle.wt_report.specs.Stations as places
-use Rattle.wt_report.proofs.TraceLaws.{logs_fit}
 use Rattle.wt_report.proofs.TraceOrder.{trace_is_serial}
 use Rattle.wwt_run.specs.Jobs.{AreInSerialOrder, final_of, output_of_run, status_of_run}
 use Rattle.wwt_run.specs.Status.{status_after_of}
@@ -48,31 +45,6 @@ from_the_start machine loaded traced engine machine_is unbroken running start = 
 
 pub at_the_end : (machine : MachineParts) (loaded : LoadedImages) (traced : Bool) (before after : EngineModel) → IsOnItsWay machine loaded traced before → world_of after ≡ final (wind_tunnel before.machine) (world_of before) → world_of after ≡ final_of machine loaded traced
 at_the_end machine loaded traced before after way last = last ∙ ap (λ (m : MachineParts). final (wind_tunnel m) (world_of before)) way.machine_is ∙ way.end
-
--- ---- the events may be shown
-
-no_log : (machine : MachineParts) (loaded : LoadedImages) (traced : Bool) (number : ℕ) → (start_node machine loaded traced number).log ≡ []
-unfolding start_node
-no_log machine loaded traced number = refl
-
-none_recorded : (machine : MachineParts) (loaded : LoadedImages) (traced : Bool) (numbers : List ℕ) (node : NodeState) → IsIn node (map (start_node machine loaded traced) numbers) → All (RecordFits machine) node.log
-none_recorded machine loaded traced [] node member = absurd member
-none_recorded machine loaded traced (number ∷ numbers) node (inl is) =
-    let none : node.log ≡ [] = ap (λ (n : NodeState). n.log) is ∙ no_log machine loaded traced number in
-    λ k d within. absurd (let e = ap length none in omega (arith, e))
-none_recorded machine loaded traced (number ∷ numbers) node (inr member) = none_recorded machine loaded traced numbers node member
-
-each_station : (P : NodeState → Type 0) (stations : List StationModel) → ((node : NodeState) → IsIn node (nodes_of stations) → P node) → All (λ (station : StationModel). P station.node.state) stations
-each_station P [] each k d within = absurd (omega arith)
-each_station P (station ∷ stations) each zero d within = each station.node.state (inl refl)
-each_station P (station ∷ stations) each (suc k) d within = each_station P stations (λ node member. each node (inr member)) k d (omega arith)
-
-pub may_show : (machine : MachineParts) (loaded : LoadedImages) (traced : Bool) (engine : EngineModel) → IsMachine machine → IsWorld (wind_tunnel machine) (IsNode machine) (Fits machine) (start_of machine loaded traced) →
-    world_of engine ≡ final_of machine loaded traced → places.MayShowEvents machine engine.stations traced
-may_show machine loaded traced engine numbers start is asked =
-    each_station (λ (node : NodeState). All (RecordFits machine) node.log) engine.stations (λ node member.
-    logs_fit machine numbers (machine.nodes * machine.event_limit) (start_of machine loaded traced) start (λ n m. none_recorded machine loaded traced _ n m) node
-    (subst (λ (w : World). IsIn node w.nodes) is member))
 
 pub in_serial_order : (machine : MachineParts) (loaded : LoadedImages) (traced : Bool) (world : World) → IsMachine machine → IsWorld (wind_tunnel machine) (IsNode machine) (Fits machine) (start_of machine loaded traced) →
     world ≡ final_of machine loaded traced → AreInSerialOrder machine loaded traced world
@@ -117,9 +89,9 @@ module _ (machine : MachineParts) (loaded : LoadedImages) (options : Options) (e
 -- a report of stations that are the engine's
 pub is_written : (machine : MachineParts) (loaded : LoadedImages) (options : Options) (engine : EngineModel) (head : Head) (stations : List StationModel) → IsUnbroken engine → engine.machine ≡ machine → world_of engine ≡ final_of machine loaded options.trace →
     (IsUnbroken engine → head ≡ head_of engine.machine (world_of engine)) → stations ≡ engine.stations → (result : Result (Unit {0}) ReportFault) (before now : ℕ) (old new : Option (List ℕ)) →
-    Writes (report machine head (nodes_of stations) options) result before now old new → Writes (output_of_run machine loaded options) result before now old new
+    Writes Failed (report machine head (nodes_of stations) options) result before now old new → Writes Failed (output_of_run machine loaded options) result before now old new
 is_written machine loaded options engine head stations unbroken machine_is is head_is same result before now old new writes =
-    subst (λ (text : List ℕ). Writes text result before now old new)
+    subst (λ (text : List ℕ). Writes Failed text result before now old new)
     (ap (λ (s : List StationModel). report machine head (nodes_of s) options) same
     ∙ output_is machine loaded options engine head is (head_is unbroken ∙ ap (λ (m : MachineParts). head_of m (world_of engine)) machine_is)) writes
 
@@ -129,6 +101,6 @@ is_status machine loaded options engine head stations unbroken machine_is is hea
     ap (λ (s : List StationModel). status_after_of head.outcome (nodes_of s)) same
     ∙ status_is machine loaded options engine head is (head_is unbroken ∙ ap (λ (m : MachineParts). head_of m (world_of engine)) machine_is)
 
-pub all_written : (text : List ℕ) (result : Result (Unit {0}) ReportFault) (done : Unit {0}) (before now : ℕ) (old new : Option (List ℕ)) → result ≡ Ok done → Writes text result before now old new → Grows old new text
+pub all_written : (text : List ℕ) (result : Result (Unit {0}) ReportFault) (done : Unit {0}) (before now : ℕ) (old new : Option (List ℕ)) → result ≡ Ok done → Writes Failed text result before now old new → Grows old new text
 all_written text (Ok _) done before now old new is writes = writes.whole
 all_written text (Err fault) done before now old new is writes = cc

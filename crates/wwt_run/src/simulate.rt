@@ -1,6 +1,6 @@
 ghost use Rattle.std.specs.Prelude.{◌≡◌, All, IfOk};
 ghost use Rattle.image_loader.specs.Images.{IsFor};
-ghost use Rattle.wt_report.specs.Stations.{AreStationsOf, MayShowEvents};
+ghost use Rattle.wt_report.specs.Stations.{AreStationsOf};
 ghost use Rattle.engine.specs.Engine.{IsUnbroken, world_of};
 ghost use Rattle.wwt_run.specs.Jobs.{AreInSerialOrder, final_of};
 
@@ -20,7 +20,6 @@ pub fn simulate(
     ensures world { IfOk result (λ engine. world_of engine ≡ final_of machine.now loaded.now traced) }
     ensures machine { IfOk result (λ engine. engine.machine ≡ machine.now) }
     ensures unbroken { IfOk result IsUnbroken }
-    ensures events { IfOk result (λ engine. MayShowEvents machine.now engine.stations traced) }
     ensures order { IfOk result (λ engine. AreInSerialOrder machine.now loaded.now traced (world_of engine)) }
 {
     let mut engine = Engine::new(alloc, *machine, loaded, traced)?;

@@ -1,6 +1,6 @@
 use Rattle.std.proofs.Common.{rules, arith}
 use Rattle.wt_listing.specs.Listing.{field_line_of}
-use Rattle.wt_listing.proofs.WriteLemmas.{writes_all, writes_handed_on, writes_until}
+use Rattle.wt_outside.proofs.WriteLemmas.{writes_all, writes_handed_on, writes_until}
 use Rattle.wt_listing.proofs.machine.write_fields.Goals as goal
 
 pub returns-in_err-write_field : goal.returns-in_err-write_field

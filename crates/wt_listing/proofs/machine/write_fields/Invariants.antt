@@ -1,6 +1,6 @@
 use Rattle.std.proofs.Common.{take, flat_map}
 use Rattle.wt_listing.specs.Listing.{field_line_of}
-use Rattle.wt_listing.proofs.WriteLemmas.{HasWritten}
+use Rattle.wt_outside.proofs.WriteLemmas.{HasWritten}
 use Rattle.wt_listing.proofs.machine.write_fields.Given as goal
 
 -- The lines of the fields so far are written.

@@ -3,7 +3,7 @@ use Rattle.std.specs.List.{enumerate_from}
 use Rattle.std.proofs.lemmas.List.FromFn.{length-enumerate_from}
 use Rattle.wt_listing.specs.Listing.{image_line_of}
 use Rattle.wt_listing.proofs.TextLemmas.{numbered_at}
-use Rattle.wt_listing.proofs.WriteLemmas.{writes_all, writes_handed_on, writes_until, written_more}
+use Rattle.wt_outside.proofs.WriteLemmas.{writes_all, writes_handed_on, writes_until, written_more}
 use Rattle.wt_listing.proofs.machine.write_images.Goals as goal
 
 pub returns-in_err-write_image : goal.returns-in_err-write_image

@@ -4,7 +4,7 @@ use Rattle.wt_params.specs.declared.parts.MachineParts.{MachineParts}
 use Rattle.wt_params.specs.declared.parts.Field.{Field}
 use Rattle.wt_params.specs.Fields.{fields}
 use Rattle.wt_listing.specs.Listing.{field_line_of, image_line_of, machine_text}
-use Rattle.wt_listing.proofs.WriteLemmas.{writes_handed_on, writes_same, writes_stopped, writes_then, written_by, written_then}
+use Rattle.wt_outside.proofs.WriteLemmas.{writes_handed_on, writes_same, writes_stopped, writes_then, written_by, written_then}
 use Rattle.wt_listing.proofs.machine.write_machine.Goals as goal
 
 -- the lines of these fields

@@ -4,7 +4,7 @@ use Rattle.std.proofs.lemmas.List.FromFn.{length-range_with_len}
 use Rattle.elf_image.specs.declared.image.Segment.{Segment}
 use Rattle.wt_listing.specs.Listing.{address_of, segment_line_of, word_line_of, word_of}
 use Rattle.wt_listing.proofs.TextLemmas.{number_at, address_more}
-use Rattle.wt_listing.proofs.WriteLemmas.{writes_all, writes_handed_on, writes_same, writes_until, written_more}
+use Rattle.wt_outside.proofs.WriteLemmas.{writes_all, writes_handed_on, writes_same, writes_until, written_more}
 use Rattle.wt_listing.proofs.words.write_segment.Goals as goal
 
 -- the line of an address and a word that are those of a segment

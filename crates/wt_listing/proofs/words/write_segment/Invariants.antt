@@ -1,7 +1,7 @@
 use Rattle.std.proofs.Common.{◌≡◌, ◌/◌, length, take, flat_map}
 use Rattle.std.specs.List.{range_with_len}
 use Rattle.wt_listing.specs.Listing.{address_of, segment_line_of}
-use Rattle.wt_listing.proofs.WriteLemmas.{HasWritten}
+use Rattle.wt_outside.proofs.WriteLemmas.{HasWritten}
 use Rattle.wt_listing.proofs.words.write_segment.Given as goal
 
 -- The lines of the words so far are written, and the next one's address is known.

@@ -1,6 +1,6 @@
 use Rattle.std.proofs.Common.{arith}
 use Rattle.wt_listing.specs.Listing.{segment_text}
-use Rattle.wt_listing.proofs.WriteLemmas.{writes_all, writes_handed_on, writes_until}
+use Rattle.wt_outside.proofs.WriteLemmas.{writes_all, writes_handed_on, writes_until}
 use Rattle.wt_listing.proofs.words.write_segments.Goals as goal
 
 pub returns-in_err-write_segment : goal.returns-in_err-write_segment

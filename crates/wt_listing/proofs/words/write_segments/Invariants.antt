@@ -1,6 +1,6 @@
 use Rattle.std.proofs.Common.{take, flat_map}
 use Rattle.wt_listing.specs.Listing.{segment_text}
-use Rattle.wt_listing.proofs.WriteLemmas.{HasWritten}
+use Rattle.wt_outside.proofs.WriteLemmas.{HasWritten}
 use Rattle.wt_listing.proofs.words.write_segments.Given as goal
 
 -- The words of the segments so far are written.

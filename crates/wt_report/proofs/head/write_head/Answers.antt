@@ -1,6 +1,6 @@
 use Rattle.std.proofs.Common.{codes}
 use Rattle.wt_report.specs.Report.{number_line_of}
-use Rattle.wt_report.proofs.WriteLemmas.{writes_handed_on, writes_stopped, writes_then, written_by, written_then}
+use Rattle.wt_outside.proofs.WriteLemmas.{writes_handed_on, writes_stopped, writes_then, written_by, written_then}
 use Rattle.wt_report.proofs.head.write_head.Goals as goal
 
 pub returns-in_err-write_outcome : goal.returns-in_err-write_outcome

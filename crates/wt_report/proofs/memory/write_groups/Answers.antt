@@ -3,7 +3,7 @@ use Rattle.std.specs.List.{range_with_len}
 use Rattle.std.proofs.lemmas.List.FromFn.{length-range_with_len}
 use Rattle.wt_report.specs.Memory.{group_text, group_text_at}
 use Rattle.wt_report.proofs.TextLemmas.{number_at}
-use Rattle.wt_report.proofs.WriteLemmas.{writes_all, writes_handed_on, writes_same, writes_until, written_more}
+use Rattle.wt_outside.proofs.WriteLemmas.{writes_all, writes_handed_on, writes_same, writes_until, written_more}
 use Rattle.wt_report.proofs.memory.write_groups.Goals as goal
 
 pub returns-in_err-write_group : goal.returns-in_err-write_group

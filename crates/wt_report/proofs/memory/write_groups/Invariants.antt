@@ -1,7 +1,7 @@
 use Rattle.std.proofs.Common.{◌/◌, length, take, flat_map}
 use Rattle.std.specs.List.{range_with_len}
 use Rattle.wt_report.specs.Memory.{group_text_at}
-use Rattle.wt_report.proofs.WriteLemmas.{HasWritten}
+use Rattle.wt_outside.proofs.WriteLemmas.{HasWritten}
 use Rattle.wt_report.proofs.memory.write_groups.Given as goal
 
 -- The lines of the groups so far are written.

@@ -1,5 +1,5 @@
 use Rattle.wt_report.specs.Memory.{private_text}
-use Rattle.wt_report.proofs.WriteLemmas.{writes_handed_on, writes_stopped, writes_then, written_by}
+use Rattle.wt_outside.proofs.WriteLemmas.{writes_handed_on, writes_stopped, writes_then, written_by}
 use Rattle.wt_report.proofs.memory.write_node.Goals as goal
 
 pub returns-in_err-write_registers : goal.returns-in_err-write_registers

@@ -5,7 +5,7 @@ use Rattle.std.proofs.lemmas.List.FromFn.{length-enumerate_from}
 use Rattle.wt_report.specs.Memory.{node_memory_text}
 use Rattle.wt_report.specs.Stations.{node_of, nodes_of}
 use Rattle.wt_report.proofs.StationLemmas.{numbered_in}
-use Rattle.wt_report.proofs.WriteLemmas.{writes_all, writes_handed_on, writes_until, written_more}
+use Rattle.wt_outside.proofs.WriteLemmas.{writes_all, writes_handed_on, writes_until, written_more}
 use Rattle.wt_report.proofs.memory.write_own.Goals as goal
 
 pub returns-in_err-write_station : goal.returns-in_err-write_station

@@ -1,5 +1,5 @@
 use Rattle.wt_report.specs.Report.{count_line_of, out_line_of}
-use Rattle.wt_report.proofs.WriteLemmas.{writes_handed_on, writes_stopped, writes_then, written_by, written_then}
+use Rattle.wt_outside.proofs.WriteLemmas.{writes_handed_on, writes_stopped, writes_then, written_by, written_then}
 use Rattle.wt_report.proofs.nodes.write_node.Goals as goal
 
 pub returns-in_err-write_processor : goal.returns-in_err-write_processor

@@ -2,7 +2,7 @@ use Rattle.std.proofs.Common.{take, flat_map}
 use Rattle.std.specs.List.{range_with_len}
 use Rattle.wt_report.specs.Memory.{block_text}
 use Rattle.wt_report.specs.Stations.{nodes_of}
-use Rattle.wt_report.proofs.WriteLemmas.{HasWritten}
+use Rattle.wt_outside.proofs.WriteLemmas.{HasWritten}
 use Rattle.wt_report.proofs.shared.write_shared.Given as goal
 
 -- The lines of the blocks so far are written.

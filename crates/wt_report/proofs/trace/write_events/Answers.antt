@@ -3,7 +3,7 @@ use Rattle.std.specs.Option.{option_copied}
 use Rattle.std.proofs.lemmas.Option.{slice_get_within, get_or_from_slice_get}
 use Rattle.wt_trace.specs.EventLine.{RecordFits, line_of}
 use Rattle.wt_trace.proofs.Walks.{all_taken, holds_at}
-use Rattle.wt_report.proofs.WriteLemmas.{writes_done, writes_handed_on, writes_same, writes_until, written_more}
+use Rattle.wt_outside.proofs.WriteLemmas.{writes_done, writes_handed_on, writes_same, writes_until, written_more}
 use Rattle.wt_report.proofs.trace.write_events.Goals as goal
 
 pub write_event-requires : goal.write_event-requires

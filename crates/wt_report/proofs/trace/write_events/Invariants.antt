@@ -1,6 +1,6 @@
 use Rattle.std.proofs.Common.{◌-◌, length, take, flat_map}
 use Rattle.wt_trace.specs.EventLine.{line_of}
-use Rattle.wt_report.proofs.WriteLemmas.{HasWritten}
+use Rattle.wt_outside.proofs.WriteLemmas.{HasWritten}
 use Rattle.wt_report.proofs.trace.write_events.Given as goal
 
 -- The lines of the events so far are written.

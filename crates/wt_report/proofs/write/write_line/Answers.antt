@@ -1,6 +1,6 @@
 use Rattle.std.proofs.Common.{subst}
 use Rattle.wt_outside.specs.Growth.{Grows}
-use Rattle.wt_report.proofs.WriteLemmas.{writes_done}
+use Rattle.wt_outside.proofs.WriteLemmas.{writes_done}
 use Rattle.wt_report.proofs.write.write_line.Goals as goal
 
 pub returns-in-Ok : goal.returns-in-Ok
