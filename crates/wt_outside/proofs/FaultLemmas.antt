@@ -1,8 +1,7 @@
 -- What follows for a count of faults over parts of the time.
-use Rattle.std.specs.Prelude.{◌≡◌, ℕ, ◌<◌, ◌≤◌, ◌⊎◌}
-use Rattle.std.proofs.Common.{inl, inr, arith}
-use Rattle.std.proofs.lemmas.Bool.{cases_lt}
-use Rattle.wt_outside.specs.Faults.{last_count, one_more, Rose, Stood}
+use Rattle.std.specs.Prelude.{◌≡◌, ℕ, ◌<◌, ◌≤◌}
+use Rattle.std.proofs.Common.{arith}
+use Rattle.wt_outside.specs.Faults.{last_count, Rose, Stood}
 
 -- what rose in a part of the time rose in all of it
 pub rose_later : (a b c : ℕ) → a ≤ b → Rose b c → Rose a c
@@ -21,10 +20,6 @@ stood_later a b c stood later = omega arith
 -- a count that never falls and stood is the same, and below its end
 pub stood_same : (a b : ℕ) → Stood a b → a ≤ b → (b ≡ a) × (a < last_count)
 stood_same a b stood later = (omega arith, omega arith)
-
--- one of the two
-pub rose_or_stood : (a b : ℕ) → Rose a b ⊎ Stood a b
-rose_or_stood a b = elim (cases_lt b (one_more a)) [ inl stood ↦ inr stood | inr rose ↦ inl rose ]
 
 pub not_both : (a b : ℕ) → Rose a b → Stood a b → ⊥
 not_both a b rose stood = omega arith

@@ -1,7 +1,7 @@
 -- What follows for bytes that grow in several steps.
 use Rattle.std.specs.Prelude.{◌≡◌, ℕ, ◌+◌, zero, suc, List, [], ◌∷◌, ◌++◌, length, take, Option, Some, None, is_some, refl}
 use Rattle.std.specs.Option.{option_map}
-use Rattle.std.proofs.Common.{sym, ap, subst, ◌∙◌, append_assoc}
+use Rattle.std.proofs.Common.{sym, ap, ◌∙◌, append_assoc}
 use Rattle.std.proofs.Math.Seq.{take-append-add, take-append_seam, take-length}
 use Rattle.std.proofs.lemmas.List.{append-nil}
 use Rattle.wt_outside.specs.Growth.{Grows, GrowsByPrefix}
@@ -58,10 +58,3 @@ pub grows_then_prefix : {a b c : Option (List ℕ)} {x y : List ℕ} → Grows a
 grows_then_prefix {a = a} {c = c} {x = x} {y = y} first second =
     let both : Grows a c (x ++ take second.count y) = grows_then first second.grew in
     record { count = length x + second.count; grew = record { by = both.by ∙ ap (λ l. option_map (λ held. held ++ l) a) (sym (take-append-add x y second.count)) } }
-
--- the same for a text that is known to be those two, or to begin with them
-pub grows_to : {a b c : Option (List ℕ)} {x y z : List ℕ} → Grows a b x → Grows b c y → z ≡ x ++ y → Grows a c z
-grows_to {a = a} {c = c} first second is = subst (Grows a c) (sym is) (grows_then first second)
-
-pub prefix_to : {a b c : Option (List ℕ)} {x y z : List ℕ} (rest : List ℕ) → Grows a b x → GrowsByPrefix b c y → z ≡ x ++ y ++ rest → GrowsByPrefix a c z
-prefix_to {a = a} {c = c} rest first second is = subst (GrowsByPrefix a c) (sym is) (prefix_longer rest (grows_then_prefix first second))

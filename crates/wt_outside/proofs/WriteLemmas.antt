@@ -1,5 +1,5 @@
 -- What follows for a text that is written in parts.
-use Rattle.std.specs.Prelude.{◌≡◌, ◌≢◌, ℕ, ◌+◌, ◌<◌, ◌≤◌, List, [], ◌++◌, length, take, drop, Option, Result, Ok, Err, OnOk, flat_map, refl}
+use Rattle.std.specs.Prelude.{◌≡◌, ◌≢◌, ℕ, ◌+◌, ◌<◌, List, [], ◌++◌, length, take, drop, Option, Result, Ok, Err, OnOk, flat_map}
 use Rattle.std.proofs.Common.{ap, sym, subst, ◌∙◌, arith, get_or}
 use Rattle.std.proofs.lemmas.List.{take_more, take-append-drop, flat_map_more}
 use Rattle.std.proofs.lemmas.Result.{err_from_is_err_and}
@@ -7,8 +7,8 @@ use Rattle.std.specs.Result.{IsErrAnd}
 use Rattle.std.proofs.lemmas.Grind.{flat_map-append}
 use Rattle.std.proofs.Math.Seq.{take-length}
 use Rattle.wt_outside.specs.Faults.{Rose}
-use Rattle.wt_outside.specs.Growth.{Grows, GrowsByPrefix}
-use Rattle.wt_outside.proofs.GrowthLemmas.{grows_nothing, grows_then, grows_then_prefix, prefix_all, prefix_longer, prefix_nothing}
+use Rattle.wt_outside.specs.Growth.{Grows}
+use Rattle.wt_outside.proofs.GrowthLemmas.{grows_then, grows_then_prefix, prefix_all, prefix_longer}
 use Rattle.wt_outside.specs.Writes.{Writes}
 
 -- a text was written whole, and nothing has failed
@@ -18,13 +18,6 @@ pub record HasWritten (text : List ℕ) (before now : ℕ) (old new : Option (Li
 
 no_fault : {F : Type 0} (failed : F) (u : Unit {0}) → let answer : Result (Unit {0}) F = Ok u in answer ≢ Err failed
 no_fault failed u same = cc
-
-other_fault : {F : Type 0} (failed fault : F) → fault ≢ failed → let answer : Result (Unit {0}) F = Err fault in answer ≢ Err failed
-other_fault failed fault other same = other cc
-
--- nothing is written yet
-pub written_nothing : {before : ℕ} {old : Option (List ℕ)} → HasWritten [] before before old old
-written_nothing = record { grew = grows_nothing refl; steady = refl }
 
 pub written_then : {x y : List ℕ} {before between now : ℕ} {old middle new : Option (List ℕ)} → HasWritten x before between old middle → HasWritten y between now middle new → HasWritten (x ++ y) before now old new
 written_then first second = record { grew = grows_then first.grew second.grew; steady = second.steady ∙ first.steady }
@@ -39,16 +32,6 @@ writes_done {failed = failed} {u = u} written = record {
   part = prefix_all written.grew;
   failed = λ same. absurd (no_fault failed u same);
   steady = λ _. written.steady;
-  later = omega arith;
-}
-
--- nothing of a text was written, by a fault that isn't the sink's
-pub writes_none : {F : Type 0} {failed : F} {x : List ℕ} {before : ℕ} {old : Option (List ℕ)} (fault : F) → fault ≢ failed → Writes failed x (Err fault) before before old old
-writes_none {failed = failed} fault other = record {
-  whole = tt;
-  part = prefix_nothing refl;
-  failed = λ same. absurd (other_fault failed fault other same);
-  steady = λ _. refl;
   later = omega arith;
 }
 
@@ -87,17 +70,6 @@ writes_handed_on {failed = failed} {x = x} {before = before} {now = now} {old = 
 pub writes_same : {F : Type 0} {failed : F} {x y : List ℕ} {before now : ℕ} {old new : Option (List ℕ)} (result : Result (Unit {0}) F) → x ≡ y → Writes failed x result before now old new → Writes failed y result before now old new
 writes_same {failed = failed} {before = before} {now = now} {old = old} {new = new} result same writes =
     subst (λ l. Writes failed l result before now old new) same writes
-
--- ---- one call of a sink
-
-pub writes_failed : {F : Type 0} {failed : F} {x : List ℕ} {before now : ℕ} {old new : Option (List ℕ)} → GrowsByPrefix old new x → Rose before now → before ≤ now → Writes failed x (Err failed) before now old new
-writes_failed part rose later = record {
-  whole = tt;
-  part = part;
-  failed = λ _. rose;
-  steady = λ other. absurd (other refl);
-  later = later;
-}
 
 -- ---- a text for each element of a list, in turn
 
