@@ -20,6 +20,7 @@ const NONE: Told = (0, 0, 0);
 /// A machine of so many nodes with their programs, what the nodes tell after each round, and what the run comes to.
 #[derive(Clone, Copy)]
 struct Case {
+    quantum: u64,
     event_limit: u64,
     budget: u64,
     nodes: u64,
@@ -40,6 +41,11 @@ const EXIT: u32 = 0x05d0_0893;
 const WELL: u32 = 0x0000_0513;
 
 const CALL: u32 = 0x0000_0073;
+
+/// x10 becomes the letter A, and the number of the call that puts it out.
+const LETTER: u32 = 0x0410_0513;
+
+const PUT: u32 = 0x0010_0893;
 
 fn machine_of(case: Case) -> Option<Machine> {
     let costs = CostParts {
@@ -62,7 +68,7 @@ fn machine_of(case: Case) -> Option<Machine> {
         ways: 1,
         latency: 100,
         self_latency: 10,
-        quantum: 100,
+        quantum: case.quantum,
         event_limit: case.event_limit,
         budget: case.budget,
         costs,
@@ -109,11 +115,15 @@ fn loaded_of(
     Ok(load(machine, images).ok())
 }
 
-/// Plays a case round by round.
-fn play(rt: &impl Abort, alloc: Global, case: Case, at: usize) -> Result<(), Fail> {
+fn engine_of(alloc: Global, case: Case) -> Result<Engine, Fail> {
     let machine = machine_of(case).ok_or("no machine")?;
     let loaded = loaded_of(alloc, &machine, case.programs)?.ok_or("no program")?;
-    let mut engine = Engine::new(alloc, machine, &loaded, false)?;
+    Ok(Engine::new(alloc, machine, &loaded, false)?)
+}
+
+/// Plays a case round by round.
+fn play(rt: &impl Abort, alloc: Global, case: Case, at: usize) -> Result<(), Fail> {
+    let mut engine = engine_of(alloc, case)?;
     for row in case.rounds {
         assert_eq!(rt; engine.round_plain()?, Round::More, "case {at}");
         for (station, told) in engine.stations().iter().zip(row) {
@@ -124,13 +134,22 @@ fn play(rt: &impl Abort, alloc: Global, case: Case, at: usize) -> Result<(), Fai
     }
     assert_eq!(rt; engine.round_plain()?, Round::Ended, "case {at}");
     assert_eq!(rt; engine.head(), case.head, "case {at}");
-    assert_eq!(rt; *engine.machine(), machine, "case {at}");
+    assert_eq!(rt; Some(*engine.machine()), machine_of(case), "case {at}");
+    Ok(())
+}
+
+/// Plays it to the end by one call.
+fn play_on(rt: &impl Abort, alloc: Global, case: Case, at: usize) -> Result<(), Fail> {
+    let mut engine = engine_of(alloc, case)?;
+    engine.run_plain()?;
+    assert_eq!(rt; engine.head(), case.head, "case {at}");
     Ok(())
 }
 
 /// Node 1 reads a block whose home is node 0: it comes at the very end of a quantum.
 fn reads() -> Case {
     Case {
+        quantum: 100,
         event_limit: 1000,
         budget: 1000,
         nodes: 2,
@@ -150,9 +169,35 @@ fn reads() -> Case {
     }
 }
 
+/// A node that is alone puts out a letter and exits, with quanta of one cycle.
+fn prints() -> Case {
+    Case {
+        quantum: 1,
+        event_limit: 1000,
+        budget: 1000,
+        nodes: 1,
+        programs: [&[LETTER, PUT, CALL, EXIT, WELL, CALL], &[], &[]],
+        rounds: &[
+            [(1, 0, 0), NONE, NONE],
+            [(2, 0, 0), NONE, NONE],
+            [(3, 0, 0), NONE, NONE],
+            [(4, 0, 0), NONE, NONE],
+            [(5, 0, 0), NONE, NONE],
+            [(6, 0, 0), NONE, NONE],
+        ],
+        head: Head {
+            outcome: Outcome::Finished,
+            events: 6,
+            time: 5,
+            quanta: 6,
+        },
+    }
+}
+
 /// Nodes 1 and 2 store into one block.
 fn two_writers() -> Case {
     Case {
+        quantum: 100,
         event_limit: 1000,
         budget: 1000,
         nodes: 3,
@@ -214,6 +259,7 @@ fn cut_by_the_budget() -> Case {
 fn rounds_by_worked_rows(rt: HostRuntime) -> Result<(), Fail> {
     let cases = [
         reads(),
+        prints(),
         two_writers(),
         spent_within_a_quantum(),
         cut_by_the_budget(),
@@ -221,6 +267,7 @@ fn rounds_by_worked_rows(rt: HostRuntime) -> Result<(), Fail> {
     let mut at = 0usize;
     for case in cases {
         play(&rt, rt.alloc(), case, at)?;
+        play_on(&rt, rt.alloc(), case, at)?;
         at = at.saturating_add(1);
     }
     Ok(())

@@ -12,8 +12,8 @@ use std::test::Fail;
 use wt_params::{CostParts, Machine, MachineParts, NoMemory};
 use wt_proto::{Body, Msg, Stamped};
 
-/// A machine of two nodes without blocks, whose nodes handle so many events.
-fn machine_with(event_limit: u64) -> Option<Machine> {
+/// A machine of so many nodes with one block, whose nodes handle so many events.
+fn machine_with(nodes: u64, event_limit: u64) -> Option<Machine> {
     let costs = CostParts {
         op: 1,
         taken: 1,
@@ -26,7 +26,7 @@ fn machine_with(event_limit: u64) -> Option<Machine> {
         trap_each: 0,
     };
     Machine::new(MachineParts {
-        nodes: 2,
+        nodes,
         private_bytes: 4096,
         block_bytes: 16,
         blocks: 1,
@@ -156,11 +156,48 @@ fn hears<L: Ledger>(
     }))
 }
 
+/// The steps and messages that a node alone has handled, how many quanta were begun, and the end of the last.
+type Ended = (u64, u64, u64, u64);
+
+/// Runs a node that is alone in its machine to its end.
+fn ends<L: Ledger>(
+    alloc: Global,
+    blank: Blank,
+    machine: &Machine,
+    words: &[u32],
+) -> Result<Option<Ended>, NoMemory>
+    requires name { blank.name ≡ L.name }
+    requires parts { blank.parts ≡ L.parts }
+    requires some { 0 < blank.parts }
+    requires one { machine.now.nodes ≡ 1 }
+{
+    let mut steps = Steps::<L>::new(blank);
+    let Some(loaded) = loaded_of(alloc, machine, words)? else {
+        return Ok(None);
+    };
+    let mut station = Station::new(alloc, machine, 0, &loaded, false)?;
+    let start = Quanta {
+        kept_end: 0,
+        count: 0,
+    };
+    let quanta = station.run_sole(start, &mut steps)?;
+    let counters = station.node().counters();
+    Ok(Some((
+        counters.steps,
+        counters.messages,
+        quanta.count,
+        quanta.kept_end,
+    )))
+}
+
 /// A jump to itself.
 const JUMP: &[u32] = &[0x0000006f];
 
 /// A call of the barrier.
 const BARRIER: &[u32] = &[0x00500893, 0x00000073];
+
+/// A load of the first word of shared memory, and an exit.
+const LOAD: &[u32] = &[0x800002b7, 0x0002a503, 0x05d00893, 0x00000073];
 
 fn ran(steps: u64, messages: u64, outs: u64, pending: u64, least: Option<u64>) -> Came {
     Came {
@@ -201,7 +238,7 @@ fn runs_of_a_station(rt: HostRuntime) -> Result<(), Fail> {
         (100, 1, BARRIER, &[100], ran(2, 0, 1, 0, None)),
     ];
     for (event_limit, number, words, times, wanted) in rows {
-        let machine = machine_with(event_limit);
+        let machine = machine_with(2, event_limit);
         assert!(rt; machine.is_some());
         if let Some(machine) = machine {
             if machine.nodes() == 2 && number < 2 {
@@ -229,11 +266,33 @@ fn messages_of_another_node(rt: HostRuntime) -> Result<(), Fail> {
         (BARRIER, 51, ran(2, 2, 1, 1, Some(60))),
     ];
     for (words, until, wanted) in rows {
-        let machine = machine_with(1000);
+        let machine = machine_with(2, 1000);
         assert!(rt; machine.is_some());
         if let Some(machine) = machine {
             if machine.nodes() == 2 && until <= machine.budget() {
                 let found = hears::<Brand>(rt.alloc(), Blank::new(1), &machine, words, until)?;
+                assert_eq!(rt; found, Some(wanted));
+            }
+        }
+    }
+    Ok(())
+}
+
+#[test]
+fn runs_of_a_sole_node(rt: HostRuntime) -> Result<(), Fail> {
+    let rows: [(u64, &[u32], Ended); 3] = [
+        // two messages to itself
+        (100, LOAD, (4, 2, 1, 100)),
+        // spent in the third quantum
+        (250, JUMP, (250, 0, 3, 300)),
+        (1 << 40, JUMP, (1_000_000, 0, 10_000, 1_000_000)),
+    ];
+    for (event_limit, words, wanted) in rows {
+        let machine = machine_with(1, event_limit);
+        assert!(rt; machine.is_some());
+        if let Some(machine) = machine {
+            if machine.nodes() == 1 {
+                let found = ends::<Brand>(rt.alloc(), Blank::new(1), &machine, words)?;
                 assert_eq!(rt; found, Some(wanted));
             }
         }

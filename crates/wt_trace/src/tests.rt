@@ -7,6 +7,7 @@ use std::alloc::Global;
 use std::test::Fail;
 use wt_params::{CostParts, Machine, MachineParts, NoMemory};
 use wt_proto::{Block, Body, Cause, Key, Msg, Stamped, StampedList};
+use wt_text::Line;
 
 /// A machine of eight nodes with 16 blocks of 16 bytes.
 fn machine() -> Option<Machine> {
@@ -50,7 +51,7 @@ fn key(time: u64, to: u32, from: u32, sequence: u64) -> Key {
     }
 }
 
-/// Whether an event of the machine has a line.
+/// Whether an event of the machine, and its copy, have a line.
 fn has_line(
     alloc: Global,
     machine: &Machine,
@@ -71,7 +72,9 @@ fn has_line(
         trap,
         sends,
     };
-    Ok(line(alloc, &item, machine)?.as_bytes() == wanted)
+    let first = line(alloc, &item, machine)?;
+    let second = line(alloc, &item.copy(alloc)?, machine)?;
+    Ok(first.as_bytes() == wanted && second.as_bytes() == wanted)
 }
 
 /// Whether a message is one that the machine can have.
@@ -493,6 +496,23 @@ fn messages_have_lines(rt: HostRuntime) -> Result<(), Fail> {
             "at {time}"
         );
     }
+    Ok(())
+}
+
+#[test]
+fn parts_are_added_to_a_line(rt: HostRuntime) -> Result<(), Fail> {
+    let machine = machine().ok_or("no machine")?;
+    let msg = message(15, Body::PutX { bytes: data() });
+    assert!(rt; machine.blocks() == 16 && fits(&machine, &msg));
+    let mut text = Line::new(rt.alloc(), b"stop ")?;
+    add_cause(&mut text, Cause::Misaligned { address: 0x25 })?;
+    text.text(b", waiting ")?;
+    add_block(&mut text, &machine, 1)?;
+    text.text(b", ")?;
+    add_message(&mut text, &machine, &msg)?;
+    let wanted = b"stop misaligned 0x00000025, waiting 0x80000010, \
+PutX 0x800000f0 00000000b8f9ffff0000000000000000";
+    assert_eq!(rt; text.as_bytes(), wanted.as_slice());
     Ok(())
 }
 
