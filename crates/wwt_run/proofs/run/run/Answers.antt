@@ -6,8 +6,8 @@ use Rattle.wwt_run.proofs.RunLemmas.{all_written, are_stations, is_written, is_s
 use Rattle.wt_report.specs.Stations as places
 use Rattle.wwt_run.proofs.run.run.Goals as goal
 
-pub write_report-requires-clause-stations : goal.write_report-requires-clause-stations
-write_report-requires-clause-stations g c =
+pub write_report-requires : goal.write_report-requires
+write_report-requires g c =
     subst (places.AreStationsOf c.args.machine.now) (sym c.stations-stations.ensures.value)
     (are_stations c.args.machine.now c.in_ok-engine.engine c.in_ok-engine.ensures.machine
     (subst (λ s. All (IsStationOf c.in_ok-engine.engine.machine c.in_ok-engine.engine.kept_end) s) c.stations-stations.ensures.value (c.stations-stations.ensures.live c.in_ok-engine.ensures.unbroken)) (c.stations-stations.ensures.world c.in_ok-engine.ensures.unbroken))
