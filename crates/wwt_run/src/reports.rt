@@ -102,15 +102,21 @@ events 10\n\
 time 306\n\
 quanta 4\n";
 
-/// Its events.
-pub const SHARED_LOAD_EVENTS: &[u8] = b"\
+/// Its events: first the steps of two cycles.
+pub const SHARED_LOAD_STEPS: &[u8] = b"\
 event 0 0 step 0x00000000 0x05d00893\n\
 event 0 1 step 0x00000000 0x800002b7\n\
 event 1 0 step 0x00000004 0x00000073 stop exit 0 > 0 Leave at 11 #0\n\
-event 1 1 step 0x00000004 0x0002a503 > 0 GetS 0x80000000 at 101 #0\n\
+event 1 1 step 0x00000004 0x0002a503 > 0 GetS 0x80000000 at 101 #0\n";
+
+/// Then two messages at node 0.
+pub const SHARED_LOAD_ASKED: &[u8] = b"\
 event 11 0 from 0 #0 Leave\n\
 event 101 0 from 1 #0 GetS 0x80000000 > 1 DataS 0x80000000 00000000000000000000000000000000 at \
-201 #1\n\
+201 #1\n";
+
+/// The last, from the load on.
+pub const SHARED_LOAD_REST: &[u8] = b"\
 event 201 1 from 0 #1 DataS 0x80000000 00000000000000000000000000000000 load 0x80000000 \
 0x00000000\n\
 event 205 1 step 0x00000008 0x05d00893\n\
@@ -155,18 +161,27 @@ pub const QUANTA_OF_1: &[u8] =
 "latency":100,"self_latency":10,"images":[{"hex":"9308d00573000000"},
 {"hex":"b702008003a502009308d00573000000"}],"quantum":1}"#;
 
+/// The same machine with quanta longer than the latency.
+pub const QUANTA_OF_101: &[u8] =
+    br#"{"version":1,"private_bytes":4096,"nodes":2,"block_bytes":16,"blocks":4,"sets":2,"ways":1,
+"latency":100,"self_latency":10,"images":[{"hex":"9308d00573000000"},
+{"hex":"b702008003a502009308d00573000000"}],"quantum":101}"#;
+
 /// The same machine, of which a node handles no more than two events.
 pub const TWO_EVENTS: &[u8] =
     br#"{"version":1,"private_bytes":4096,"nodes":2,"block_bytes":16,"blocks":4,"sets":2,"ways":1,
 "latency":100,"self_latency":10,"images":[{"hex":"9308d00573000000"},
 {"hex":"b702008003a502009308d00573000000"}],"event_limit":2}"#;
 
-/// Its report: two messages are under way.
-pub const TWO_EVENTS_REPORT: &[u8] = b"\
+/// The first lines of its report.
+pub const TWO_EVENTS_HEAD: &[u8] = b"\
 outcome events\n\
 events 4\n\
 time 1\n\
-quanta 1\n\
+quanta 1\n";
+
+/// Its nodes: two messages are under way.
+pub const TWO_EVENTS_NODES: &[u8] = b"\
 node 0 exit 0 pc 0x00000004 clock 1\n\
 count 0 steps 2 messages 0 done 2 hits 0 misses 0 upgrades 0 replaced 0 checkins 0 invs 0 \
 traps 0 trap_cycles 0 barriers 0 stray 0 sent 1\n\
@@ -178,12 +193,15 @@ out 1 0\n\
 total steps 4 messages 0 done 3 hits 0 misses 1 upgrades 0 replaced 0 checkins 0 invs 0 \
 traps 0 trap_cycles 0 barriers 0 stray 0 sent 2\n";
 
-/// The report of the first machine with a budget of 150 cycles.
-pub const BUDGET_REPORT: &[u8] = b"\
+/// The first lines of the report of the first machine with a budget of 150 cycles.
+pub const BUDGET_HEAD: &[u8] = b"\
 outcome budget\n\
 events 6\n\
 time 101\n\
-quanta 2\n\
+quanta 2\n";
+
+/// Its nodes.
+pub const BUDGET_NODES: &[u8] = b"\
 node 0 exit 0 pc 0x00000004 clock 1\n\
 count 0 steps 2 messages 2 done 2 hits 0 misses 0 upgrades 0 replaced 0 checkins 0 invs 0 \
 traps 0 trap_cycles 0 barriers 0 stray 0 sent 2\n\
@@ -338,6 +356,22 @@ traps 0 trap_cycles 0 barriers 0 stray 0 sent 6\n\
 out 1 0\n\
 total steps 11 messages 14 done 11 hits 0 misses 4 upgrades 0 replaced 2 checkins 0 invs 0 \
 traps 1 trap_cycles 255 barriers 0 stray 0 sent 14\n";
+
+/// Its registers and memories: node 0 has read what node 1 wrote.
+pub const REPLACED_MEMORY: &[u8] = b"\
+regs 0 00000000 00000000 00001000 00000000 00000000 80000000 00000001 00000000 00000000 \
+00000000 00000000 00000002 00000000 00000000 00000000 00000000 00000000 0000005d \
+00000000 00000000 00000000 00000000 00000000 00000000 00000000 00000000 00000000 \
+00000000 00000000 00000000 00000000 00000000\n\
+mem 0 0x00000000 b702008003a3020103a302009308d005\n\
+mem 0 0x00000010 73000000000000000000000000000000\n\
+regs 1 00000000 00000000 00001000 00000000 00000000 80000000 00000000 00000000 00000000 \
+00000000 00000000 00000002 00000000 00000000 00000000 00000000 00000000 0000005d \
+00000000 00000000 00000000 00000000 00000000 00000000 00000000 00000000 00000000 \
+00000000 00000000 00000000 00000000 00000000\n\
+mem 1 0x00000000 b702008023a0a20003a302029308d005\n\
+mem 1 0x00000010 13050000730000000000000000000000\n\
+shared 0x80000000 01000000000000000000000000000000\n";
 
 /// Three nodes come to the barrier and a fourth leaves.
 pub const BARRIER: &[u8] = br#"{"version":1,"private_bytes":4096,"nodes":4,

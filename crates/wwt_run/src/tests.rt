@@ -101,42 +101,84 @@ fn flat_runs_print_their_reports(rt: HostRuntime) -> Result<(), Fail> {
     Ok(())
 }
 
+/// The words, the description, the status, and what is printed, in parts.
+type LoadRow = (
+    &'static [&'static str],
+    &'static [u8],
+    Status,
+    &'static [&'static [u8]],
+);
+
+/// Runs of the machine of one load: whole, with quanta of each length, and cut.
+const LOADS: [LoadRow; 6] = [
+    (
+        &["run", "m"],
+        SHARED_LOAD,
+        Status::Done,
+        &[SHARED_LOAD_HEAD, SHARED_LOAD_NODES],
+    ),
+    (
+        &["run", "--trace", "--memory", "m"],
+        SHARED_LOAD,
+        Status::Done,
+        &[
+            SHARED_LOAD_HEAD,
+            SHARED_LOAD_STEPS,
+            SHARED_LOAD_ASKED,
+            SHARED_LOAD_REST,
+            SHARED_LOAD_NODES,
+            SHARED_LOAD_MEMORY,
+        ],
+    ),
+    (
+        &["run", "--trace", "m"],
+        QUANTA_OF_37,
+        Status::Done,
+        &[
+            SHARED_LOAD_HEAD,
+            SHARED_LOAD_STEPS,
+            SHARED_LOAD_ASKED,
+            SHARED_LOAD_REST,
+            SHARED_LOAD_NODES,
+        ],
+    ),
+    (
+        &["run", "--trace", "m"],
+        QUANTA_OF_1,
+        Status::Done,
+        &[
+            b"outcome finished\nevents 10\ntime 306\nquanta 8\n",
+            SHARED_LOAD_STEPS,
+            SHARED_LOAD_ASKED,
+            SHARED_LOAD_REST,
+            SHARED_LOAD_NODES,
+        ],
+    ),
+    (
+        &["run", "--trace", "--budget", "150", "m"],
+        SHARED_LOAD,
+        Status::Budget,
+        &[
+            BUDGET_HEAD,
+            SHARED_LOAD_STEPS,
+            SHARED_LOAD_ASKED,
+            BUDGET_NODES,
+        ],
+    ),
+    (
+        &["run", "--trace", "m"],
+        TWO_EVENTS,
+        Status::EventLimit,
+        &[TWO_EVENTS_HEAD, SHARED_LOAD_STEPS, TWO_EVENTS_NODES],
+    ),
+];
+
 #[test]
-fn a_load_is_the_same_by_any_quanta(rt: HostRuntime) -> Result<(), Fail> {
+fn runs_of_one_load_print_their_reports(rt: HostRuntime) -> Result<(), Fail> {
     let alloc = rt.alloc();
-    let rows: [(&[&str], &[u8], &[&[u8]]); 4] = [
-        (
-            &["run", "m"],
-            SHARED_LOAD,
-            &[SHARED_LOAD_HEAD, SHARED_LOAD_NODES],
-        ),
-        (
-            &["run", "--trace", "--memory", "m"],
-            SHARED_LOAD,
-            &[
-                SHARED_LOAD_HEAD,
-                SHARED_LOAD_EVENTS,
-                SHARED_LOAD_NODES,
-                SHARED_LOAD_MEMORY,
-            ],
-        ),
-        (
-            &["run", "m"],
-            QUANTA_OF_37,
-            &[SHARED_LOAD_HEAD, SHARED_LOAD_NODES],
-        ),
-        (
-            &["run", "m"],
-            QUANTA_OF_1,
-            &[
-                b"outcome finished\nevents 10\ntime 306\nquanta 8\n",
-                SHARED_LOAD_NODES,
-            ],
-        ),
-    ];
-    for (words, machine, parts) in rows {
+    for (words, machine, status, parts) in LOADS {
         let ran = run_machine(alloc, words, machine)?;
-        prints(&rt, &ran, Status::Done, &joined(alloc, parts)?);
+        prints(&rt, &ran, status, &joined(alloc, parts)?);
     }
     Ok(())
 }
@@ -157,7 +199,11 @@ fn blocks_go_from_node_to_node(rt: HostRuntime) -> Result<(), Fail> {
         ),
         (&["run", "m"], UPGRADE, &[UPGRADE_REPORT]),
         (&["run", "m"], UPGRADE_OF_TWO, &[UPGRADE_OF_TWO_REPORT]),
-        (&["run", "m"], REPLACED, &[REPLACED_REPORT]),
+        (
+            &["run", "--memory", "m"],
+            REPLACED,
+            &[REPLACED_REPORT, REPLACED_MEMORY],
+        ),
     ];
     for (words, machine, parts) in rows {
         let ran = run_machine(alloc, words, machine)?;
@@ -168,31 +214,15 @@ fn blocks_go_from_node_to_node(rt: HostRuntime) -> Result<(), Fail> {
 
 #[test]
 fn runs_end_in_each_way(rt: HostRuntime) -> Result<(), Fail> {
-    let rows: [(&[&str], &[u8], Status, &[u8]); 6] = [
-        (&["run", "m"], BARRIER, Status::Done, BARRIER_REPORT),
-        (&["run", "m"], STALLED, Status::Stalled, STALLED_REPORT),
-        (
-            &["run", "--budget", "150", "m"],
-            SHARED_LOAD,
-            Status::Budget,
-            BUDGET_REPORT,
-        ),
-        (
-            &["run", "m"],
-            TWO_EVENTS,
-            Status::EventLimit,
-            TWO_EVENTS_REPORT,
-        ),
-        (&["run", "m"], ANNOTATIONS, Status::Done, ANNOTATIONS_REPORT),
-        (&["run", "m"], LINKED, Status::Done, LINKED_REPORT),
+    let rows: [(&[u8], Status, &[u8]); 4] = [
+        (BARRIER, Status::Done, BARRIER_REPORT),
+        (STALLED, Status::Stalled, STALLED_REPORT),
+        (ANNOTATIONS, Status::Done, ANNOTATIONS_REPORT),
+        (LINKED, Status::Done, LINKED_REPORT),
     ];
-    for (words, machine, status, report) in rows {
-        prints(
-            &rt,
-            &run_machine(rt.alloc(), words, machine)?,
-            status,
-            report,
-        );
+    for (machine, status, report) in rows {
+        let ran = run_machine(rt.alloc(), &["run", "m"], machine)?;
+        prints(&rt, &ran, status, report);
     }
     Ok(())
 }
@@ -318,7 +348,7 @@ const REFUSED: [(&[u8], Status, &[u8]); 7] = [
         b"wwt: machine: range nodes 33\n",
     ),
     (
-        br#"{"version":1,"private_bytes":4096,"nodes":2,"quantum":101,"images":[{"hex":""}]}"#,
+        QUANTA_OF_101,
         Status::BadMachine,
         b"wwt: machine: range quantum 101\n",
     ),
