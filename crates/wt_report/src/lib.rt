@@ -19,3 +19,6 @@ pub use fault::ReportFault;
 pub use options::Options;
 pub use report::write_report;
 pub use trace::traces_are_serial;
+
+#[cfg(test)]
+mod tests;

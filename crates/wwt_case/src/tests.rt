@@ -104,3 +104,9 @@ fn words_and_files_call_for_jobs(rt: HostRuntime) -> Result<(), Fail> {
     }
     Ok(())
 }
+
+#[test]
+fn a_name_has_its_text(rt: HostRuntime) -> Result<(), Fail> {
+    assert_eq!(rt; Name::new(rt.alloc(), "a.elf")?.get(), "a.elf");
+    Ok(())
+}

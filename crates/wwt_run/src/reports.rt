@@ -468,6 +468,10 @@ pub const LINKED_FILE: &[u8] = b"\
 \x00\x10\x00\x00\x13\x05\x10\x04\x93\x08\x10\x00\x73\x00\x00\x00\
 \x93\x08\xd0\x05\x13\x05\x00\x00\x73\x00\x00\x00";
 
+/// The same node with less memory: it ends where the file is loaded.
+pub const LINKED_OUTSIDE: &[u8] =
+    br#"{"version":1,"private_bytes":65536,"nodes":1,"images":[{"file":"a.elf"}]}"#;
+
 /// Its report.
 pub const LINKED_REPORT: &[u8] = b"\
 outcome finished\n\

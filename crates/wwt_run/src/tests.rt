@@ -398,10 +398,6 @@ const BOTH_FLAT: &[u8] = br#"{"version":1,"nodes":2,"private_bytes":4096,
 const HEADER: &[u8] = b"\x7fELF\x01\x01\x01\0\0\0\0\0\0\0\0\0\x02\0\xf3\0\x01\0\0\0\0\0\0\0\
 \x34\0\0\0\0\0\0\0\0\0\0\0\x34\0\x20\0\0\0\0\0\0\0\0\0";
 
-/// The same, one byte short.
-const CUT_HEADER: &[u8] = b"\x7fELF\x01\x01\x01\0\0\0\0\0\0\0\0\0\x02\0\xf3\0\x01\0\0\0\0\0\0\0\
-\x34\0\0\0\0\0\0\0\0\0\0\0\x34\0\x20\0\0\0\0\0\0\0\0";
-
 /// The description and the first file, the reads that fail, the status and the line.
 type FileRow = (
     &'static [u8],
@@ -411,20 +407,13 @@ type FileRow = (
     &'static [u8],
 );
 
-const FILES: [FileRow; 4] = [
+const FILES: [FileRow; 3] = [
     (
         TWO_FILES,
         HEADER,
         &[],
         Status::BadImage,
         b"wwt: image 0: noload\n",
-    ),
-    (
-        TWO_FILES,
-        CUT_HEADER,
-        &[],
-        Status::BadImage,
-        b"wwt: image 0: short\n",
     ),
     (
         BOTH_FLAT,
@@ -452,6 +441,44 @@ fn files_of_images_are_read_in_order(rt: HostRuntime) -> Result<(), Fail> {
             status,
             line,
         );
+    }
+    Ok(())
+}
+
+/// The description, the length left of the linked file, a byte at a place in it, and the line.
+type BrokenRow = (&'static [u8], usize, (usize, u8), &'static [u8]);
+
+const BROKEN: [BrokenRow; 5] = [
+    (LINKED, 51, (0, 0x7f), b"wwt: image 0: short\n"),
+    // The memory size of what is loaded.
+    (LINKED, 140, (104, 139), b"wwt: image 0: size\n"),
+    // The high byte of the type of the first program header.
+    (LINKED, 140, (55, 0), b"wwt: image 0: dynamic\n"),
+    (LINKED, 140, (24, 0x76), b"wwt: image 0: entry 0x00010076\n"),
+    (
+        LINKED_OUTSIDE,
+        140,
+        (0, 0x7f),
+        b"wwt: image 0: outside 0x00010000\n",
+    ),
+];
+
+/// The linked file up to a length, with this byte at a place.
+fn broken_of(alloc: Global, length: usize, place: usize, byte: u8) -> Result<Vec<u8>, Fail> {
+    let mut file = Vec::new(alloc);
+    for (at, old) in LINKED_FILE.iter().enumerate().take(length) {
+        file.push(if at == place { byte } else { *old })?;
+    }
+    Ok(file)
+}
+
+#[test]
+fn broken_files_are_refused(rt: HostRuntime) -> Result<(), Fail> {
+    let alloc = rt.alloc();
+    for (machine, length, (place, byte), line) in BROKEN {
+        let file = broken_of(alloc, length, place, byte)?;
+        let ran = run_files(alloc, &["run", "m"], [machine, &file, b""], &[])?;
+        is_refused(&rt, &ran, Status::BadImage, line);
     }
     Ok(())
 }
