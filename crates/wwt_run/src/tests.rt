@@ -472,13 +472,18 @@ fn broken_of(alloc: Global, length: usize, place: usize, byte: u8) -> Result<Vec
     Ok(file)
 }
 
+/// Runs a machine of the linked file once that is broken.
+fn run_broken(alloc: Global, row: &BrokenRow) -> Result<Ran, Fail> {
+    let (machine, length, (place, byte), _) = *row;
+    let file = broken_of(alloc, length, place, byte)?;
+    run_files(alloc, &["run", "m"], [machine, &file, b""], &[])
+}
+
 #[test]
 fn broken_files_are_refused(rt: HostRuntime) -> Result<(), Fail> {
-    let alloc = rt.alloc();
-    for (machine, length, (place, byte), line) in BROKEN {
-        let file = broken_of(alloc, length, place, byte)?;
-        let ran = run_files(alloc, &["run", "m"], [machine, &file, b""], &[])?;
-        is_refused(&rt, &ran, Status::BadImage, line);
+    for row in BROKEN {
+        let ran = run_broken(rt.alloc(), &row)?;
+        is_refused(&rt, &ran, Status::BadImage, row.3);
     }
     Ok(())
 }

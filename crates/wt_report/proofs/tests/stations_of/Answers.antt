@@ -1,4 +1,4 @@
-use Rattle.std.proofs.Common.{◌≡◌, ℕ, zero, suc, ◌<◌, Bool, [], ◌∷◌, get_or, sym, ap, arith}
+use Rattle.std.proofs.Common.{◌≡◌, ℕ, zero, suc, ◌<◌, Bool, List, [], ◌∷◌, ◌++◌, ◌∙◌, get_or, sym, ap, subst, arith}
 use Rattle.wt_params.specs.declared.parts.MachineParts.{MachineParts}
 use Rattle.wt_proto.specs.declared.message.Msg.{Msg}
 use Rattle.image_loader.specs.Images.{LoadedImages}
@@ -25,4 +25,7 @@ module _ (machine : MachineParts) (loaded : LoadedImages) (traced : Bool) (stati
       each (suc place) d within = absurd (omega arith)
 
 pub returns : goal.returns
-returns c = are_stations _ _ _ _ c.in_ok-station.ensures.start c.requires.one c.in_ok-station.ensures.machine c.in_ok-station.ensures.unbroken
+returns c =
+    subst (AreStationsOf c.args.machine.now)
+    (sym (c.in_ok-push.ensures.items ∙ ap (λ (l : List StationModel). l ++ c.in_ok-station.station ∷ []) c.new-stations.ensures.items))
+    (are_stations _ _ _ c.in_ok-station.station c.in_ok-station.ensures.start c.requires.one c.in_ok-station.ensures.machine c.in_ok-station.ensures.unbroken)
