@@ -13,6 +13,4 @@ pub use status::Status;
 pub use top::wwt_plain;
 
 #[cfg(test)]
-mod reports;
-#[cfg(test)]
 mod tests;
