@@ -8,7 +8,8 @@ use image_loader::{Loaded, load};
 use std::alloc::Global;
 use std::process::Abort;
 use std::test::Fail;
-use wt_params::{CostParts, Machine, MachineParts, NoMemory};
+use test_machines::small_parts;
+use wt_params::{Machine, NoMemory};
 use wt_stats::{Head, Outcome};
 
 /// What a node has handled, steps and messages, and how many messages wait for it.
@@ -29,36 +30,8 @@ const SHARED: u32 = 0x8000_02b7;
 const LOAD: u32 = 0x0002_a503;
 /// The number of the call that ends a program, and the call.
 const EXIT: u32 = 0x05d0_0893;
-const CALL: u32 = 0x0000_0073;
 
-fn machine_of(case: Case) -> Option<Machine> {
-    let costs = CostParts {
-        op: 1,
-        taken: 2,
-        mem: 1,
-        hit: 1,
-        cico: 1,
-        call: 1,
-        fill: 4,
-        trap: 250,
-        trap_each: 5,
-    };
-    Machine::new(MachineParts {
-        nodes: case.nodes,
-        private_bytes: 4096,
-        block_bytes: 16,
-        blocks: 4,
-        sets: 2,
-        ways: 1,
-        latency: 100,
-        self_latency: 10,
-        quantum: 100,
-        event_limit: 1000,
-        budget: 1000,
-        costs,
-    })
-    .ok()
-}
+const CALL: u32 = 0x0000_0073;
 
 /// An image of words.
 fn image_of(alloc: Global, words: &[u32]) -> Result<Option<Image>, NoMemory>
@@ -100,7 +73,9 @@ fn loaded_of(
 }
 
 fn engine_of(alloc: Global, case: Case) -> Result<Engine, Fail> {
-    let machine = machine_of(case).ok_or("no machine")?;
+    let machine = Machine::new(small_parts(case.nodes))
+        .ok()
+        .ok_or("no machine")?;
     let loaded = loaded_of(alloc, &machine, case.programs)?.ok_or("no program")?;
     Ok(Engine::new(alloc, machine, &loaded, false)?)
 }
@@ -118,7 +93,7 @@ fn play(rt: &impl Abort, alloc: Global, case: Case) -> Result<(), Fail> {
     }
     assert_eq!(rt; engine.round_plain()?, Round::Ended);
     assert_eq!(rt; engine.head(), case.head);
-    assert_eq!(rt; Some(*engine.machine()), machine_of(case));
+    assert_eq!(rt; engine.machine().nodes(), case.nodes);
     Ok(())
 }
 

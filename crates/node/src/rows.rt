@@ -49,6 +49,7 @@ pub const LOAD: u32 = 0x0002_a503;
 const STORE: u32 = 0x00a2_a023;
 /// The number of the call that ends a program, and the call.
 const EXIT: u32 = 0x05d0_0893;
+
 pub const CALL: u32 = 0x0000_0073;
 /// A jump to itself.
 const JUMP: u32 = 0x0000_006f;

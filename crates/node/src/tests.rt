@@ -16,39 +16,10 @@ use std::alloc::Global;
 use std::cmp::Ordering;
 use std::process::Abort;
 use std::test::Fail;
-use wt_params::{CostParts, Machine, MachineParts, NoMemory};
+use test_machines::small_parts;
+use wt_params::{Machine, NoMemory};
 use wt_proto::{Block, Body, Key, Mode, Msg, Stamped, StampedList};
 use wt_trace::{Deed, What};
-
-/// A machine with four blocks of 16 bytes, and a cache of two sets of one way.
-fn machine_of(nodes: u64) -> Option<Machine> {
-    let costs = CostParts {
-        op: 1,
-        taken: 2,
-        mem: 1,
-        hit: 1,
-        cico: 1,
-        call: 1,
-        fill: 4,
-        trap: 250,
-        trap_each: 5,
-    };
-    Machine::new(MachineParts {
-        nodes,
-        private_bytes: 4096,
-        block_bytes: 16,
-        blocks: 4,
-        sets: 2,
-        ways: 1,
-        latency: 100,
-        self_latency: 10,
-        quantum: 100,
-        event_limit: 1000,
-        budget: 1000,
-        costs,
-    })
-    .ok()
-}
 
 /// An image of words for every node.
 fn loaded_of(alloc: Global, machine: &Machine, words: &[u32]) -> Result<Option<Loaded>, NoMemory>
@@ -268,7 +239,9 @@ fn played(
     traced: bool,
     out: &mut StampedList,
 ) -> Result<Node, Fail> {
-    let machine = machine_of(case.nodes).ok_or("no machine")?;
+    let machine = Machine::new(small_parts(case.nodes))
+        .ok()
+        .ok_or("no machine")?;
     let loaded = loaded_of(alloc, &machine, case.words)?.ok_or("no program")?;
     assert!(rt; (case.number as u64) < machine.nodes());
     let number = case.number;
