@@ -8,39 +8,10 @@ use image_loader::{Loaded, load};
 use quantum::Station;
 use std::alloc::Global;
 use std::test::Fail;
+use test_machines::one_node;
 use wt_outside::MemSink;
-use wt_params::{CostParts, Machine, MachineParts, NoMemory};
+use wt_params::{Machine, NoMemory};
 use wt_stats::{Head, Outcome};
-
-/// A machine of one node and one block.
-fn machine() -> Option<Machine> {
-    let costs = CostParts {
-        op: 1,
-        taken: 1,
-        mem: 1,
-        hit: 1,
-        cico: 1,
-        call: 1,
-        fill: 0,
-        trap: 0,
-        trap_each: 0,
-    };
-    Machine::new(MachineParts {
-        nodes: 1,
-        private_bytes: 4096,
-        block_bytes: 16,
-        blocks: 1,
-        sets: 1,
-        ways: 1,
-        latency: 100,
-        self_latency: 10,
-        quantum: 100,
-        event_limit: 100,
-        budget: 100,
-        costs,
-    })
-    .ok()
-}
 
 /// A program of one environment call.
 fn loaded_of(alloc: Global, machine: &Machine) -> Result<Option<Loaded>, NoMemory>
@@ -108,8 +79,7 @@ const ROWS: [Row; 5] = [
 #[test]
 fn each_option_has_its_report(rt: HostRuntime) -> Result<(), Fail> {
     let alloc = rt.alloc();
-    let machine = machine().ok_or("no machine")?;
-    assert_eq!(rt; machine.nodes(), 1);
+    let machine = one_node();
     let loaded = loaded_of(alloc, &machine)?.ok_or("no program")?;
     let stations = stations_of(alloc, &machine, &loaded)?;
     let head = Head {
