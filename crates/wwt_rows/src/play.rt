@@ -1,6 +1,7 @@
 //! A row as it is run.
-ghost use Rattle.std.specs.Prelude.{OnOk};
+ghost use Rattle.std.specs.Prelude.{◌≡◌, OnOk, false};
 ghost use Rattle.wt_outside.specs.MemFiles.{AreNamedApart};
+ghost use Rattle.wwt_rows.specs.Names.{IsNew};
 
 use crate::compare::{Ran, difference};
 use crate::row::{Content, Row};
@@ -71,7 +72,9 @@ fn add(files: &mut Vec<(String, Vec<u8>)>, name: String, bytes: Vec<u8>) -> Resu
 }
 
 /// Whether a file of that name is there.
-fn is_named(files: &[(String, Vec<u8>)], name: &str) -> bool {
+fn is_named(files: &[(String, Vec<u8>)], name: &str) -> bool
+    ensures { result ≡ false → IsNew name.now files.now }
+{
     for (other, _) in files {
         if other.as_str() == name {
             return true;
