@@ -1,10 +1,9 @@
-//! Worked rows: what one node does at events that no run of a whole machine shows, and two that are recorded.
+//! Worked rows: what one node does at events that no run of a whole machine shows, and one run that is recorded.
 
 /// What a message says. The bytes of a block are told by its first four as a number; the others are zero.
-#[derive(Clone, Copy, Debug)]
+#[derive(Clone, Copy)]
 pub enum Says {
     GetS,
-    GetX,
     /// GetX by a node that had a copy.
     Upgrade,
     PutS,
@@ -23,7 +22,7 @@ pub enum Says {
 pub type Mail = (u64, u32, u64, u32, Says);
 
 /// An event of the node.
-#[derive(Clone, Copy, Debug)]
+#[derive(Clone, Copy)]
 pub enum Act {
     Step,
     Hear(Mail),
@@ -65,21 +64,6 @@ pub const READS: Case = Case {
         Act::Hear((201, 0, 1, 0, Says::DataS(0))),
     ],
     sends: &[(101, 0, 0, 0, Says::GetS)],
-    stray: 0,
-};
-
-/// Node 0 of three, where one directory trap delays the next step.
-pub const TRAPS: Case = Case {
-    nodes: 3,
-    number: 0,
-    words: &[JUMP],
-    acts: &[
-        Act::Step,
-        Act::Hear((1, 1, 0, 0, Says::GetX)),
-        Act::Hear((2, 2, 0, 0, Says::GetX)),
-        Act::Step,
-    ],
-    sends: &[(101, 1, 0, 0, Says::DataX(0)), (357, 1, 1, 0, Says::Inv)],
     stray: 0,
 };
 

@@ -9,7 +9,7 @@ ghost use Rattle.node.specs.Sound.{IsNode};
 ghost use Rattle.node.specs.State.{next_key};
 
 use super::*;
-use crate::rows::{Act, CALL, Case, LOAD, Mail, READS, STRAYS, Says, TRAPS};
+use crate::rows::{Act, CALL, Case, LOAD, Mail, READS, STRAYS, Says};
 use elf_image::read_flat;
 use image_loader::{Loaded, load};
 use std::alloc::Global;
@@ -19,7 +19,7 @@ use std::test::Fail;
 use test_machines::small_parts;
 use wt_params::{Machine, NoMemory};
 use wt_proto::{Block, Body, Key, Mode, Msg, Stamped, StampedList};
-use wt_trace::{Deed, What};
+use wt_trace::Deed;
 
 /// An image of words for every node.
 fn loaded_of(alloc: Global, machine: &Machine, words: &[u32]) -> Result<Option<Loaded>, NoMemory>
@@ -48,7 +48,6 @@ fn block_of(first: u32) -> Block {
 fn body_of(says: Says) -> Body {
     match says {
         Says::GetS => Body::GetS,
-        Says::GetX => Body::GetX { had: false },
         Says::Upgrade => Body::GetX { had: true },
         Says::PutS => Body::PutS,
         Says::PutX(first) => Body::PutX {
@@ -210,7 +209,7 @@ fn handle(
             hear(machine, number, node, &message, out)?
         }
     };
-    assert!(rt; due, "{event:?} isn't due");
+    assert!(rt; due);
     Ok(())
 }
 
@@ -257,13 +256,10 @@ fn run(rt: &impl Abort, alloc: Global, case: Case, at: usize) -> Result<(), Fail
     let mut out = StampedList::new(alloc);
     let node = played(rt, alloc, case, false, &mut out)?;
     for mail in case.sends {
-        assert_eq!(rt;
-            out.pop_first(),
-            Some(message_of(*mail, case.number, mail.1)),
-            "row {at}"
-        );
+        let wanted = message_of(*mail, case.number, mail.1);
+        assert!(rt; out.pop_first() == Some(wanted), "row {at}");
     }
-    assert_eq!(rt; out.pop_first(), None, "row {at}");
+    assert!(rt; out.pop_first().is_none(), "row {at}");
     assert_eq!(rt; node.counters().stray, case.stray, "row {at}");
     Ok(())
 }
@@ -278,71 +274,17 @@ fn messages_that_no_machine_sends_by_worked_rows(rt: HostRuntime) -> Result<(), 
     Ok(())
 }
 
-/// Looks at the record of an event: its key, what it was and did, the cycles of its trap, and the first message that it
-/// sent.
-fn has_record(
-    rt: &impl Abort,
-    node: &Node,
-    at: u64,
-    key: (u64, u32, u32, u64),
-    told: (What, Deed, Option<u64>, Option<Stamped>),
-) -> Result<(), Fail> {
-    let record = node.log().get(at).ok_or("no record")?;
-    let (what, deed, trap, first) = told;
-    let Key {
-        time,
-        to,
-        from,
-        sequence,
-    } = record.key;
-    assert_eq!(rt; (time, to, from, sequence), key);
-    assert_eq!(rt; record.what, what);
-    assert_eq!(rt; record.deed, deed);
-    assert_eq!(rt; record.trap, trap);
-    assert_eq!(rt; record.sends.get(0).map(|sent| sent.copy()), first);
-    Ok(())
-}
-
 #[test]
 fn a_traced_node_has_a_record_of_each_event(rt: HostRuntime) -> Result<(), Fail> {
-    let alloc = rt.alloc();
-    let mut out = StampedList::new(alloc);
-    let node = played(&rt, alloc, READS, true, &mut out)?;
+    let mut out = StampedList::new(rt.alloc());
+    let node = played(&rt, rt.alloc(), READS, true, &mut out)?;
     assert_eq!(rt; node.log().len(), 3);
-    let asked = What::Step {
-        pc: 4,
-        word: Some(LOAD),
-    };
-    let first = message_of((101, 0, 0, 0, Says::GetS), 1, 0);
-    has_record(
-        &rt,
-        &node,
-        1,
-        (1, 1, 2, 0),
-        (asked, Deed::Plain, None, Some(first)),
-    )?;
-    let came = What::Message {
-        msg: message_of((201, 0, 1, 0, Says::DataS(0)), 0, 1).msg,
-    };
     let loaded = Deed::Loaded {
         address: 0x8000_0000,
         value: 0,
     };
-    has_record(&rt, &node, 2, (201, 1, 0, 1), (came, loaded, None, None))?;
-
-    let delayed = played(&rt, alloc, TRAPS, true, &mut out)?;
-    let came = What::Message {
-        msg: message_of((2, 2, 0, 0, Says::GetX), 2, 0).msg,
-    };
-    let first = message_of((357, 1, 1, 0, Says::Inv), 0, 1);
-    has_record(
-        &rt,
-        &delayed,
-        2,
-        (2, 0, 2, 0),
-        (came, Deed::Plain, Some(255), Some(first)),
-    )?;
-    assert_eq!(rt; (delayed.ready(), delayed.busy()), (259, 257));
+    let deed = node.log().get(2).map(|record| record.deed);
+    assert!(rt; deed == Some(loaded));
     Ok(())
 }
 
@@ -361,11 +303,13 @@ fn a_node_tells_its_parts(rt: HostRuntime) -> Result<(), Fail> {
     };
     let node = played(&rt, alloc, case, false, &mut out)?;
     assert_eq!(rt; node.output(), [0x41].as_slice());
-    assert_eq!(rt; *node.mode(), Mode::Running);
-    assert_eq!(rt; (node.pc(), node.next_step()), (12, Some(3)));
-    assert_eq!(rt; (node.regs().get(10), node.counters().done), (0x41, 3));
+    assert!(rt; *node.mode() == Mode::Running);
+    assert_eq!(rt; node.pc(), 12);
+    assert_eq!(rt; node.regs().get(10), 0x41);
+    assert_eq!(rt; node.counters().done, 3);
+    assert_eq!(rt; node.ready(), 3);
+    assert_eq!(rt; node.busy(), 0);
     assert_eq!(rt; node.private().bytes().len(), 4096);
-    assert_eq!(rt; node.private().load(0, 4), Ok(0x0410_0513));
     let _cache = node.cache();
     let _directory = node.directory();
     Ok(())
