@@ -17,25 +17,25 @@ const COSTS: CostParts = CostParts {
 
 /// Words as GNU as 2.40 assembles them for rv32i (the annotation by its directive .insn), and by the manual what x5 is
 /// after each, and the effect: at address 8, where x5 is 0x101, x6 is 0x80000010 and x7 is 4.
-const ROWS: &str = "407352b3 f8000001 Next { pc: 12, cost: 1 } sra x5, x6, x7\n\
-40435293 f8000001 Next { pc: 12, cost: 1 } srai x5, x6, 4\n\
-fff33293 1 Next { pc: 12, cost: 1 } sltiu x5, x6, -1\n\
-00128013 101 Next { pc: 12, cost: 1 } addi x0, x5, 1\n\
-800002b7 80000000 Next { pc: 12, cost: 1 } lui x5, 0x80000\n\
-fffff297 fffff008 Next { pc: 12, cost: 1 } auipc x5, 0xfffff\n\
-ffdff2ef c Next { pc: 4, cost: 2 } jal x5, -4\n\
-006002ef 101 BadTarget { target: 14 } jal x5, 6\n\
-004282e7 c Next { pc: 260, cost: 2 } jalr x5, 4(x5)\n\
-005282e7 101 BadTarget { target: 262 } jalr x5, 5(x5)\n\
-fe528ce3 101 Next { pc: 0, cost: 2 } beq x5, x5, -8\n\
-00528363 101 BadTarget { target: 14 } beq x5, x5, 6\n\
-00628363 101 Next { pc: 12, cost: 1 } beq x5, x6, 6\n\
-80032283 101 Load { op: Lw, rd: 5, address: 2147481616 } lw x5, -2048(x6)\n\
-00638423 101 Store { op: Sb, address: 12, value: 2147483664 } sb x6, 8(x7)\n\
-0403200b 101 Cico { op: CheckIn, address: 2147483728 } check_in 64(x6)\n\
-0ff0000f 101 Next { pc: 12, cost: 1 } fence\n\
-00000073 101 Call ecall\n\
-00100073 101 Break ebreak\n\
+const ROWS: &str = "407352b3 f8000001 Next { pc: 12, cost: 1 } sra x5, x6, x7
+40435293 f8000001 Next { pc: 12, cost: 1 } srai x5, x6, 4
+fff33293 1 Next { pc: 12, cost: 1 } sltiu x5, x6, -1
+00128013 101 Next { pc: 12, cost: 1 } addi x0, x5, 1
+800002b7 80000000 Next { pc: 12, cost: 1 } lui x5, 0x80000
+fffff297 fffff008 Next { pc: 12, cost: 1 } auipc x5, 0xfffff
+ffdff2ef c Next { pc: 4, cost: 2 } jal x5, -4
+006002ef 101 BadTarget { target: 14 } jal x5, 6
+004282e7 c Next { pc: 260, cost: 2 } jalr x5, 4(x5)
+005282e7 101 BadTarget { target: 262 } jalr x5, 5(x5)
+fe528ce3 101 Next { pc: 0, cost: 2 } beq x5, x5, -8
+00528363 101 BadTarget { target: 14 } beq x5, x5, 6
+00628363 101 Next { pc: 12, cost: 1 } beq x5, x6, 6
+80032283 101 Load { op: Lw, rd: 5, address: 2147481616 } lw x5, -2048(x6)
+00638423 101 Store { op: Sb, address: 12, value: 2147483664 } sb x6, 8(x7)
+0403200b 101 Cico { op: CheckIn, address: 2147483728 } check_in 64(x6)
+0ff0000f 101 Next { pc: 12, cost: 1 } fence
+00000073 101 Call ecall
+00100073 101 Break ebreak
 00000000 101 Illegal illegal";
 
 #[test]
