@@ -1,4 +1,5 @@
 ghost use Rattle.std.specs.Prelude.{◌≡◌, ◌<◌, ◌≤◌};
+ghost use Rattle.quantum.specs.Stations.{MayAccept, machine_of};
 
 use super::*;
 use event_queue::Steps;
@@ -14,6 +15,28 @@ use wt_proto::{Body, Msg, Stamped};
 /// What a run came to: the steps and messages handled, the messages handed out, those that wait, and the time of the
 /// least event.
 type Came = (u64, u64, u64, u64, Option<u64>);
+
+/// Gives a message to a station, and runs it up to a time.
+fn heard<L: Ledger>(
+    station: &mut Station,
+    message: Stamped,
+    until: u64,
+    steps: &mut Steps<L>,
+) -> Result<Came, NoMemory>
+    requires message { MayAccept station.old message }
+    requires budget { until ≤ (machine_of station.old).budget }
+    requires forward { station.old.until ≤ until }
+{
+    if station.accept(message, steps).is_err() {
+        return Err(NoMemory);
+    }
+    let outs = station.run_to(until, steps)?.len();
+    let counters = station.node().counters();
+    let (handled, messages) = (counters.steps, counters.messages);
+    let pending = station.pending();
+    let least = station.least(steps);
+    Ok((handled, messages, outs, pending, least))
+}
 
 /// A station that is given a message before it runs: node 1 has come to the barrier at time 50.
 fn hears<L: Ledger>(
@@ -47,15 +70,8 @@ fn hears<L: Ledger>(
             body: Body::Arrive,
         },
     };
-    match station.accept(message, &mut steps) {
-        Ok(()) => {}
-        Err(_back) => return Err(NoMemory),
-    }
-    let outs = station.run_to(until, &mut steps)?.len();
-    let counters = station.node().counters();
-    let pending = station.pending();
-    let least = station.least(&mut steps);
-    Ok(Some((counters.steps, counters.messages, outs, pending, least)))
+    let came = heard(&mut station, message, until, &mut steps)?;
+    Ok(Some(came))
 }
 
 /// The steps and messages that a node alone has handled, how many quanta were begun, and the end of the last.
