@@ -13,60 +13,60 @@ use wt_proto::{Block, Body, DirState, Msg, Sends};
 // state, how many wait, the last byte of the memory, and who hears what, with the last byte that it carries.
 
 /// A block that is read, then wanted alone, then wanted to read.
-const CALLED_BACK: &str = "1 GetS 0 => Done Shared { count: 1 } 0 Some(0) > 1 DataS Some(0)\n\
-2 GetX 0 => AllBut { node: 2 } Busy { from: 2, exclusive: true, left: 3 } 0 Some(0)\n\
-3 GetS 0 => Done Busy { from: 2, exclusive: true, left: 3 } 1 Some(0)\n\
-0 InvAck 0 => Done Busy { from: 2, exclusive: true, left: 2 } 1 Some(0)\n\
-1 InvAck 0 => Done Busy { from: 2, exclusive: true, left: 1 } 1 Some(0)\n\
-3 InvAck 0 => Done Exclusive { owner: 2 } 1 Some(0) > 2 DataX Some(0) > 0 Wake None\n\
-0 Wake 0 => One { node: 2 } Busy { from: 3, exclusive: false, left: 1 } 0 Some(0)\n\
-2 PutX 7 => Done Busy { from: 3, exclusive: false, left: 1 } 0 Some(7)\n\
-2 InvAck 0 => Done Shared { count: 1 } 0 Some(7) > 3 DataS Some(7)\n\
+const CALLED_BACK: &str = "1 GetS 0 => Done Shared { count: 1 } 0 Some(0) > 1 DataS Some(0)
+2 GetX 0 => AllBut { node: 2 } Busy { from: 2, exclusive: true, left: 3 } 0 Some(0)
+3 GetS 0 => Done Busy { from: 2, exclusive: true, left: 3 } 1 Some(0)
+0 InvAck 0 => Done Busy { from: 2, exclusive: true, left: 2 } 1 Some(0)
+1 InvAck 0 => Done Busy { from: 2, exclusive: true, left: 1 } 1 Some(0)
+3 InvAck 0 => Done Exclusive { owner: 2 } 1 Some(0) > 2 DataX Some(0) > 0 Wake None
+0 Wake 0 => One { node: 2 } Busy { from: 3, exclusive: false, left: 1 } 0 Some(0)
+2 PutX 7 => Done Busy { from: 3, exclusive: false, left: 1 } 0 Some(7)
+2 InvAck 0 => Done Shared { count: 1 } 0 Some(7) > 3 DataS Some(7)
 1 PutX 9 => Stray Shared { count: 1 } 0 Some(7)";
 
 /// Strays, and four requests that wait.
-const WAITING: &str = "1 PutS 0 => Stray Idle 0 Some(0)\n\
-1 PutX 5 => Stray Idle 0 Some(0)\n\
-1 InvAck 0 => Stray Idle 0 Some(0)\n\
-0 Wake 0 => Stray Idle 0 Some(0)\n\
-1 GetX+ 0 => Done Exclusive { owner: 1 } 0 Some(0) > 1 DataX Some(0)\n\
-2 PutS 0 => Stray Exclusive { owner: 1 } 0 Some(0)\n\
-2 PutX 5 => Stray Exclusive { owner: 1 } 0 Some(0)\n\
-1 PutX 5 => Done Idle 0 Some(5)\n\
-3 GetX 0 => Done Exclusive { owner: 3 } 0 Some(5) > 3 DataX Some(5)\n\
-2 GetX 0 => One { node: 3 } Busy { from: 2, exclusive: true, left: 1 } 0 Some(5)\n\
-1 PutS 0 => Done Busy { from: 2, exclusive: true, left: 1 } 0 Some(5)\n\
-0 Wake 0 => Stray Busy { from: 2, exclusive: true, left: 1 } 0 Some(5)\n\
-1 GetX 0 => Done Busy { from: 2, exclusive: true, left: 1 } 1 Some(5)\n\
-0 GetS 0 => Done Busy { from: 2, exclusive: true, left: 1 } 2 Some(5)\n\
-3 GetX+ 0 => Done Busy { from: 2, exclusive: true, left: 1 } 3 Some(5)\n\
-3 InvAck+ 8 => Done Exclusive { owner: 2 } 3 Some(8) > 2 DataX Some(8) > 0 Wake None\n\
-2 PutX 4 => Done Idle 3 Some(4)\n\
-2 GetS 0 => Done Idle 4 Some(4)\n\
-0 Wake 0 => Done Exclusive { owner: 1 } 3 Some(4) > 1 DataX Some(4) > 0 Wake None\n\
-0 Wake 0 => One { node: 1 } Busy { from: 0, exclusive: false, left: 1 } 2 Some(4)\n\
-1 InvAck+ 6 => Done Shared { count: 1 } 2 Some(6) > 0 DataS Some(6) > 0 Wake None\n\
-0 Wake 0 => AllBut { node: 3 } Busy { from: 3, exclusive: true, left: 3 } 1 Some(6)\n\
-0 InvAck+ 2 => Done Busy { from: 3, exclusive: true, left: 2 } 1 Some(2)\n\
-1 InvAck 0 => Done Busy { from: 3, exclusive: true, left: 1 } 1 Some(2)\n\
-2 InvAck 0 => Done Exclusive { owner: 3 } 1 Some(2) > 3 DataX Some(2) > 0 Wake None\n\
-3 PutX 1 => Done Idle 1 Some(1)\n\
-0 Wake 0 => Done Shared { count: 1 } 0 Some(1) > 2 DataS Some(1)\n\
+const WAITING: &str = "1 PutS 0 => Stray Idle 0 Some(0)
+1 PutX 5 => Stray Idle 0 Some(0)
+1 InvAck 0 => Stray Idle 0 Some(0)
+0 Wake 0 => Stray Idle 0 Some(0)
+1 GetX+ 0 => Done Exclusive { owner: 1 } 0 Some(0) > 1 DataX Some(0)
+2 PutS 0 => Stray Exclusive { owner: 1 } 0 Some(0)
+2 PutX 5 => Stray Exclusive { owner: 1 } 0 Some(0)
+1 PutX 5 => Done Idle 0 Some(5)
+3 GetX 0 => Done Exclusive { owner: 3 } 0 Some(5) > 3 DataX Some(5)
+2 GetX 0 => One { node: 3 } Busy { from: 2, exclusive: true, left: 1 } 0 Some(5)
+1 PutS 0 => Done Busy { from: 2, exclusive: true, left: 1 } 0 Some(5)
+0 Wake 0 => Stray Busy { from: 2, exclusive: true, left: 1 } 0 Some(5)
+1 GetX 0 => Done Busy { from: 2, exclusive: true, left: 1 } 1 Some(5)
+0 GetS 0 => Done Busy { from: 2, exclusive: true, left: 1 } 2 Some(5)
+3 GetX+ 0 => Done Busy { from: 2, exclusive: true, left: 1 } 3 Some(5)
+3 InvAck+ 8 => Done Exclusive { owner: 2 } 3 Some(8) > 2 DataX Some(8) > 0 Wake None
+2 PutX 4 => Done Idle 3 Some(4)
+2 GetS 0 => Done Idle 4 Some(4)
+0 Wake 0 => Done Exclusive { owner: 1 } 3 Some(4) > 1 DataX Some(4) > 0 Wake None
+0 Wake 0 => One { node: 1 } Busy { from: 0, exclusive: false, left: 1 } 2 Some(4)
+1 InvAck+ 6 => Done Shared { count: 1 } 2 Some(6) > 0 DataS Some(6) > 0 Wake None
+0 Wake 0 => AllBut { node: 3 } Busy { from: 3, exclusive: true, left: 3 } 1 Some(6)
+0 InvAck+ 2 => Done Busy { from: 3, exclusive: true, left: 2 } 1 Some(2)
+1 InvAck 0 => Done Busy { from: 3, exclusive: true, left: 1 } 1 Some(2)
+2 InvAck 0 => Done Exclusive { owner: 3 } 1 Some(2) > 3 DataX Some(2) > 0 Wake None
+3 PutX 1 => Done Idle 1 Some(1)
+0 Wake 0 => Done Shared { count: 1 } 0 Some(1) > 2 DataS Some(1)
 2 PutS 0 => Done Idle 0 Some(1)";
 
 /// Copies to read come and go.
-const COUNTED: &str = "1 GetS 0 => Done Shared { count: 1 } 0 Some(0) > 1 DataS Some(0)\n\
-2 GetS 0 => Done Shared { count: 2 } 0 Some(0) > 2 DataS Some(0)\n\
-1 PutS 0 => Done Shared { count: 1 } 0 Some(0)\n\
-3 GetS 0 => Done Shared { count: 2 } 0 Some(0) > 3 DataS Some(0)\n\
+const COUNTED: &str = "1 GetS 0 => Done Shared { count: 1 } 0 Some(0) > 1 DataS Some(0)
+2 GetS 0 => Done Shared { count: 2 } 0 Some(0) > 2 DataS Some(0)
+1 PutS 0 => Done Shared { count: 1 } 0 Some(0)
+3 GetS 0 => Done Shared { count: 2 } 0 Some(0) > 3 DataS Some(0)
 2 GetX+ 0 => AllBut { node: 2 } Busy { from: 2, exclusive: true, left: 3 } 0 Some(0)";
 
 /// A node alone has nobody to call copies back from.
-const ALONE: &str = "0 GetS 0 => Done Shared { count: 1 } 0 Some(0) > 0 DataS Some(0)\n\
+const ALONE: &str = "0 GetS 0 => Done Shared { count: 1 } 0 Some(0) > 0 DataS Some(0)
 0 GetX+ 0 => Done Exclusive { owner: 0 } 0 Some(0) > 0 DataX Some(0)";
 
-const ALONE_AGAIN: &str = "0 GetS 0 => Done Shared { count: 1 } 0 Some(0) > 0 DataS Some(0)\n\
-0 GetX 0 => Done Exclusive { owner: 0 } 0 Some(0) > 0 DataX Some(0)\n\
+const ALONE_AGAIN: &str = "0 GetS 0 => Done Shared { count: 1 } 0 Some(0) > 0 DataS Some(0)
+0 GetX 0 => Done Exclusive { owner: 0 } 0 Some(0) > 0 DataX Some(0)
 0 GetS 0 => One { node: 0 } Busy { from: 0, exclusive: false, left: 1 } 0 Some(0)";
 
 /// A message by its name.
