@@ -8,41 +8,41 @@ const FILE: &[u8; 140] =
     b"\x7fELF\x01\x01\x01\0\0\0\0\0\0\0\0\0\x02\0\xf3\0\x01\0\0\0\x74\0\x01\0\x34\0\0\0\0\0\0\0\0\0\0\0\x34\0\x20\0\x02\0\x28\0\0\0\0\0\x03\0\0\x70\0\0\0\0\0\0\0\0\0\0\0\0\0\0\0\0\0\0\0\0\x04\0\0\0\x01\0\0\0\x01\0\0\0\0\0\0\0\0\0\x01\0\0\0\x01\0\x8c\0\0\0\x8c\0\0\0\x05\0\0\0\0\x10\0\0\x13\x05\x10\x04\x93\x08\x10\0\x73\0\0\0\x93\x08\xd0\x05\x13\x05\0\0\x73\0\0\0";
 
 /// Changes of bytes of the file, and the length at which it is cut, and what reading it answers.
-const ROWS: &str = "0 => Short\n\
-51 => Short\n\
-52 => TableOutside\n\
-115 => TableOutside\n\
-116 => SegmentOutside\n\
-139 => SegmentOutside\n\
-140 => ok\n\
-0=126 => Magic\n\
-3=71 => Magic\n\
-4=2 => Class\n\
-5=2 => Order\n\
-6=9 => ok\n\
-16=3 => NotExec\n\
-17=1 => NotExec\n\
-18=242 => Machine\n\
-42=33 => Entries\n\
-28=76 => NoLoad\n\
-28=77 => TableOutside\n\
-44=3 => TableOutside\n\
-44=255 45=255 => TableOutside\n\
-28=224 29=255 30=255 31=255 => TableOutside\n\
-52=2 55=0 => Dynamic\n\
-52=3 55=0 => Dynamic\n\
-52=4 55=0 => ok\n\
-84=2 => Dynamic\n\
-100=139 88=1 => ok\n\
-88=1 => SegmentOutside\n\
-88=255 89=255 90=255 91=255 => SegmentOutside\n\
-104=139 => SizeLess\n\
-104=141 => ok\n\
-107=255 => ok\n\
-84=0 => NoLoad\n\
-44=1 => NoLoad\n\
-44=0 => NoLoad\n\
-84=3 52=1 55=0 68=1 => Dynamic\n\
+const ROWS: &str = "0 => Short
+51 => Short
+52 => TableOutside
+115 => TableOutside
+116 => SegmentOutside
+139 => SegmentOutside
+140 => ok
+0=126 => Magic
+3=71 => Magic
+4=2 => Class
+5=2 => Order
+6=9 => ok
+16=3 => NotExec
+17=1 => NotExec
+18=242 => Machine
+42=33 => Entries
+28=76 => NoLoad
+28=77 => TableOutside
+44=3 => TableOutside
+44=255 45=255 => TableOutside
+28=224 29=255 30=255 31=255 => TableOutside
+52=2 55=0 => Dynamic
+52=3 55=0 => Dynamic
+52=4 55=0 => ok
+84=2 => Dynamic
+100=139 88=1 => ok
+88=1 => SegmentOutside
+88=255 89=255 90=255 91=255 => SegmentOutside
+104=139 => SizeLess
+104=141 => ok
+107=255 => ok
+84=0 => NoLoad
+44=1 => NoLoad
+44=0 => NoLoad
+84=3 52=1 55=0 68=1 => Dynamic
 88=1 52=1 55=0 68=1 => SegmentOutside";
 
 /// What reading the file with these changes answers.
