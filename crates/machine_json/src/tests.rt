@@ -41,6 +41,8 @@ const ROWS: &str = r#" => Syntax
 "latency":50,"quantum":100 => Range(Key { inner: "quantum" }, 100)
 "latency":50 => ok
 "ways":8,"sets":1024 => Range(Key { inner: "ways" }, 8)
+"sets":1025,"ways":9 => Range(Key { inner: "sets" }, 1025)
+"latency":0,"quantum":0 => Range(Key { inner: "latency" }, 0)
 "ways":4,"sets":1024 => ok
 "event_limit":0 => Range(Key { inner: "event_limit" }, 0)
 "budget":1099511627777 => Range(Key { inner: "budget" }, 1099511627777)
