@@ -1,496 +1,164 @@
 ghost use Rattle.std.specs.Prelude.{OnOk};
+ghost use Rattle.wt_params.specs.Machine.{InRange};
 ghost use Rattle.dir1sw.specs.Homes.{IsHome};
 
 use super::*;
-use std::alloc::Global;
+use std::alloc::{AllocError, Global};
 use std::process::Abort;
 use std::test::Fail;
-use wt_params::{CostParts, Machine, MachineParts};
-use wt_proto::{Block, Body, DirState, Msg, Outgoing, Sends, Targets, TrapPlan};
+use test_machines::machine_of;
+use wt_proto::{Block, Body, DirState, Msg, Sends};
 
-/// A message to the directory. Blocks are told by the byte that fills them.
-#[derive(Clone, Copy, Debug)]
-enum Say {
-    GetS,
-    GetX,
-    /// GetX by a node that had a copy.
-    Upgrade,
-    PutS,
-    PutX(u8),
-    Ack,
-    AckWith(u8),
-    Wake,
+// A row has who sends a message, its name, the byte that fills its block, and what comes of it: the act, the entry's
+// state, how many wait, the last byte of the memory, and who hears what, with the last byte that it carries.
+
+/// A block that is read, then wanted alone, then wanted to read.
+const CALLED_BACK: &str = "1 GetS 0 => Done Shared { count: 1 } 0 Some(0) > 1 DataS Some(0)
+2 GetX 0 => AllBut { node: 2 } Busy { from: 2, exclusive: true, left: 3 } 0 Some(0)
+3 GetS 0 => Done Busy { from: 2, exclusive: true, left: 3 } 1 Some(0)
+0 InvAck 0 => Done Busy { from: 2, exclusive: true, left: 2 } 1 Some(0)
+1 InvAck 0 => Done Busy { from: 2, exclusive: true, left: 1 } 1 Some(0)
+3 InvAck 0 => Done Exclusive { owner: 2 } 1 Some(0) > 2 DataX Some(0) > 0 Wake None
+0 Wake 0 => One { node: 2 } Busy { from: 3, exclusive: false, left: 1 } 0 Some(0)
+2 PutX 7 => Done Busy { from: 3, exclusive: false, left: 1 } 0 Some(7)
+2 InvAck 0 => Done Shared { count: 1 } 0 Some(7) > 3 DataS Some(7)
+1 PutX 9 => Stray Shared { count: 1 } 0 Some(7)";
+
+/// Strays, and four requests that wait.
+const WAITING: &str = "1 PutS 0 => Stray Idle 0 Some(0)
+1 PutX 5 => Stray Idle 0 Some(0)
+1 InvAck 0 => Stray Idle 0 Some(0)
+0 Wake 0 => Stray Idle 0 Some(0)
+1 GetX+ 0 => Done Exclusive { owner: 1 } 0 Some(0) > 1 DataX Some(0)
+2 PutS 0 => Stray Exclusive { owner: 1 } 0 Some(0)
+2 PutX 5 => Stray Exclusive { owner: 1 } 0 Some(0)
+1 PutX 5 => Done Idle 0 Some(5)
+3 GetX 0 => Done Exclusive { owner: 3 } 0 Some(5) > 3 DataX Some(5)
+2 GetX 0 => One { node: 3 } Busy { from: 2, exclusive: true, left: 1 } 0 Some(5)
+1 PutS 0 => Done Busy { from: 2, exclusive: true, left: 1 } 0 Some(5)
+0 Wake 0 => Stray Busy { from: 2, exclusive: true, left: 1 } 0 Some(5)
+1 GetX 0 => Done Busy { from: 2, exclusive: true, left: 1 } 1 Some(5)
+0 GetS 0 => Done Busy { from: 2, exclusive: true, left: 1 } 2 Some(5)
+3 GetX+ 0 => Done Busy { from: 2, exclusive: true, left: 1 } 3 Some(5)
+3 InvAck+ 8 => Done Exclusive { owner: 2 } 3 Some(8) > 2 DataX Some(8) > 0 Wake None
+2 PutX 4 => Done Idle 3 Some(4)
+2 GetS 0 => Done Idle 4 Some(4)
+0 Wake 0 => Done Exclusive { owner: 1 } 3 Some(4) > 1 DataX Some(4) > 0 Wake None
+0 Wake 0 => One { node: 1 } Busy { from: 0, exclusive: false, left: 1 } 2 Some(4)
+1 InvAck+ 6 => Done Shared { count: 1 } 2 Some(6) > 0 DataS Some(6) > 0 Wake None
+0 Wake 0 => AllBut { node: 3 } Busy { from: 3, exclusive: true, left: 3 } 1 Some(6)
+0 InvAck+ 2 => Done Busy { from: 3, exclusive: true, left: 2 } 1 Some(2)
+1 InvAck 0 => Done Busy { from: 3, exclusive: true, left: 1 } 1 Some(2)
+2 InvAck 0 => Done Exclusive { owner: 3 } 1 Some(2) > 3 DataX Some(2) > 0 Wake None
+3 PutX 1 => Done Idle 1 Some(1)
+0 Wake 0 => Done Shared { count: 1 } 0 Some(1) > 2 DataS Some(1)
+2 PutS 0 => Done Idle 0 Some(1)";
+
+/// Copies to read come and go.
+const COUNTED: &str = "1 GetS 0 => Done Shared { count: 1 } 0 Some(0) > 1 DataS Some(0)
+2 GetS 0 => Done Shared { count: 2 } 0 Some(0) > 2 DataS Some(0)
+1 PutS 0 => Done Shared { count: 1 } 0 Some(0)
+3 GetS 0 => Done Shared { count: 2 } 0 Some(0) > 3 DataS Some(0)
+2 GetX+ 0 => AllBut { node: 2 } Busy { from: 2, exclusive: true, left: 3 } 0 Some(0)";
+
+/// A node alone has nobody to call copies back from.
+const ALONE: &str = "0 GetS 0 => Done Shared { count: 1 } 0 Some(0) > 0 DataS Some(0)
+0 GetX+ 0 => Done Exclusive { owner: 0 } 0 Some(0) > 0 DataX Some(0)";
+
+const ALONE_AGAIN: &str = "0 GetS 0 => Done Shared { count: 1 } 0 Some(0) > 0 DataS Some(0)
+0 GetX 0 => Done Exclusive { owner: 0 } 0 Some(0) > 0 DataX Some(0)
+0 GetS 0 => One { node: 0 } Busy { from: 0, exclusive: false, left: 1 } 0 Some(0)";
+
+/// A message by its name.
+fn body_of(name: &str, byte: u8) -> Option<Body> {
+    let bytes = Block::new(&[byte; 16]);
+    Some(match name {
+        "GetS" => Body::GetS,
+        "GetX" => Body::GetX { had: false },
+        "GetX+" => Body::GetX { had: true },
+        "PutS" => Body::PutS,
+        "PutX" => Body::PutX { bytes },
+        "InvAck" => Body::InvAck { bytes: None },
+        "InvAck+" => Body::InvAck { bytes: Some(bytes) },
+        "Wake" => Body::Wake,
+        _ => return None,
+    })
 }
 
-/// A message from the directory.
-#[derive(Clone, Copy, Debug)]
-enum Hear {
-    DataS(u8),
-    DataX(u8),
-    Wake,
-}
-
-/// One message and what it is to bring.
-#[derive(Clone, Copy)]
-struct Case {
-    from: u32,
-    say: Say,
-    act: DirAct,
-    /// Who hears what, in order.
-    hear: &'static [(u32, Hear)],
-    state: DirState,
-    /// Who waits, and whether for the block alone.
-    waiting: &'static [(u32, bool)],
-    memory: u8,
-}
-
-fn filled(byte: u8) -> Block {
-    Block::new(&[byte; 16])
-}
-
-fn body_of(say: Say) -> Body {
-    match say {
-        Say::GetS => Body::GetS,
-        Say::GetX => Body::GetX { had: false },
-        Say::Upgrade => Body::GetX { had: true },
-        Say::PutS => Body::PutS,
-        Say::PutX(byte) => Body::PutX {
-            bytes: filled(byte),
-        },
-        Say::Ack => Body::InvAck { bytes: None },
-        Say::AckWith(byte) => Body::InvAck {
-            bytes: Some(filled(byte)),
-        },
-        Say::Wake => Body::Wake,
+/// Who hears what.
+fn heard(alloc: Global, sends: &Sends) -> Result<String, AllocError> {
+    let mut text = String::new(alloc);
+    for i in 0..sends.len() {
+        if let Some(item) = sends.get(i) {
+            let (kind, byte) = match &item.msg.body {
+                Body::DataS { bytes } => ("DataS", bytes.bytes().last().copied()),
+                Body::DataX { bytes } => ("DataX", bytes.bytes().last().copied()),
+                Body::Wake => ("Wake", None),
+                _ => ("another", None),
+            };
+            let to = item.to;
+            let part = format!(in alloc; " > {to} {kind} {byte:?}")?;
+            text.push_str(part.as_str())?;
+        }
     }
-}
-
-fn heard(hear: Hear) -> Body {
-    match hear {
-        Hear::DataS(byte) => Body::DataS {
-            bytes: filled(byte),
-        },
-        Hear::DataX(byte) => Body::DataX {
-            bytes: filled(byte),
-        },
-        Hear::Wake => Body::Wake,
-    }
-}
-
-fn machine_of(nodes: u64) -> Option<Machine> {
-    let costs = CostParts {
-        op: 1,
-        taken: 2,
-        mem: 1,
-        hit: 1,
-        cico: 1,
-        call: 1,
-        fill: 4,
-        trap: 250,
-        trap_each: 5,
-    };
-    let parts = MachineParts {
-        nodes,
-        private_bytes: 4096,
-        block_bytes: 16,
-        blocks: 4,
-        sets: 2,
-        ways: 1,
-        latency: 100,
-        self_latency: 10,
-        quantum: 100,
-        event_limit: 1000,
-        budget: 1000,
-        costs,
-    };
-    Machine::new(parts).ok()
+    Ok(text)
 }
 
 /// Sends one message to a directory, and looks at all that it brings.
-fn check(
-    rt: &impl Abort,
-    alloc: Global,
-    directory: &mut Directory,
-    step: Case,
-    at: usize,
-) -> Result<(), Fail>
+fn check(rt: &impl Abort, alloc: Global, directory: &mut Directory, row: &str) -> Result<(), Fail>
     requires { IsHome directory.old 0 }
     ensures { OnOk result (IsHome directory.new 0) }
 {
     if let DirState::Shared { count } = directory.entry(0).state {
         assert!(rt; count < 100);
     }
-    let msg = Msg {
-        block: 0,
-        body: body_of(step.say),
-    };
+    let (said, wanted) = row.split_once(" => ").ok_or("no answer in a row")?;
+    let (from, said) = said.split_once(' ').ok_or("no message in a row")?;
+    let (name, byte) = said.split_once(' ').ok_or("no byte in a row")?;
+    let body = body_of(name, byte.parse()?).ok_or("another message")?;
     let mut out = Sends::new(alloc);
-    let act = directory.arrive(step.from, &msg, &mut out)?;
-    assert_eq!(rt; act, step.act, "step {at}");
-    for (to, hear) in step.hear {
-        let msg = Msg {
-            block: 0,
-            body: heard(*hear),
-        };
-        assert_eq!(rt;
-            out.pop_first(),
-            Some(Outgoing { to: *to, msg }),
-            "step {at}"
-        );
-    }
-    assert_eq!(rt; out.pop_first(), None, "step {at}");
-    check_entry(rt, directory, step, at);
+    let act = directory.arrive(from.parse()?, &Msg { block: 0, body }, &mut out)?;
+    let sent = heard(alloc, &out)?;
+    let act = match act {
+        DirAct::Trap(plan) => {
+            let targets = plan.targets;
+            format!(in alloc; "{targets:?}")?
+        }
+        act => format!(in alloc; "{act:?}")?,
+    };
+    let entry = directory.entry(0);
+    let state = entry.state;
+    let waits = entry.waiting.len();
+    let memory = directory.memory(0).last().copied();
+    let told = format!(in alloc; "{act} {state:?} {waits} {memory:?}{sent}")?;
+    assert!(rt; told.as_str() == wanted, "{row}");
     Ok(())
 }
 
-/// Looks at the entry and the memory of block 0.
-fn check_entry(rt: &impl Abort, directory: &Directory, step: Case, at: usize)
-    requires { IsHome directory.now 0 }
-{
-    let entry = directory.entry(0);
-    assert_eq!(rt; entry.state, step.state, "step {at}");
-    let mut i = 0u64;
-    for (node, exclusive) in step.waiting {
-        let waits = entry
-            .waiting
-            .get(i)
-            .map(|request| (request.node, request.exclusive));
-        assert_eq!(rt; waits, Some((*node, *exclusive)), "step {at}");
-        i = i.saturating_add(1);
-    }
-    assert_eq!(rt; entry.waiting.len(), i, "step {at}");
-    assert_eq!(rt;
-        directory.memory(0),
-        [step.memory; 16].as_slice(),
-        "step {at}"
-    );
-}
-
-const fn shared(count: u64) -> DirState {
-    DirState::Shared { count }
-}
-
-const fn exclusive(owner: u32) -> DirState {
-    DirState::Exclusive { owner }
-}
-
-const fn busy(from: u32, exclusive: bool, left: u32) -> DirState {
-    DirState::Busy {
-        from,
-        exclusive,
-        left,
-    }
-}
-
-const fn all_but(node: u32) -> DirAct {
-    DirAct::Trap(TrapPlan {
-        block: 0,
-        targets: Targets::AllBut { node },
-    })
-}
-
-const fn one(node: u32) -> DirAct {
-    DirAct::Trap(TrapPlan {
-        block: 0,
-        targets: Targets::One { node },
-    })
-}
-
-const IDLE: DirState = DirState::Idle;
-
-const DONE: DirAct = DirAct::Done;
-
-const STRAY: DirAct = DirAct::Stray;
-
-const fn step(
-    from: u32,
-    say: Say,
-    act: DirAct,
-    hear: &'static [(u32, Hear)],
-    state: DirState,
-    waiting: &'static [(u32, bool)],
-    memory: u8,
-) -> Case {
-    Case {
-        from,
-        say,
-        act,
-        hear,
-        state,
-        waiting,
-        memory,
-    }
-}
-
 /// Sends messages to the directory of node 0, of so many nodes.
-fn run(rt: &impl Abort, alloc: Global, nodes: u64, steps: &[Case]) -> Result<(), Fail> {
-    let machine = machine_of(nodes).ok_or("no machine")?;
+fn run(rt: &impl Abort, alloc: Global, nodes: u64, rows: &str) -> Result<(), Fail>
+    requires { InRange 1 32 nodes }
+{
+    let machine = machine_of(nodes);
     assert!(rt; machine.blocks() > 0 && machine.home(0) == 0);
     let mut directory = Directory::new(alloc, &machine, 0)?;
-    let mut at = 0usize;
-    for item in steps {
-        check(rt, alloc, &mut directory, *item, at)?;
-        at = at.saturating_add(1);
+    for row in rows.split('\n') {
+        check(rt, alloc, &mut directory, row)?;
     }
     assert!(rt; directory.memory(0).len() == 16);
     directory.fill(0, 14, &[1, 2]);
-    assert_eq!(rt; directory.memory(0).last().copied(), Some(2));
+    assert!(rt; directory.memory(0).last().copied() == Some(2));
     Ok(())
 }
 
 #[test]
 fn each_row_of_both_tables(rt: HostRuntime) -> Result<(), Fail> {
     let alloc = rt.alloc();
-    // A block that is read, then wanted alone, then wanted to read.
-    let called_back = [
-        step(
-            1,
-            Say::GetS,
-            DONE,
-            &[(1, Hear::DataS(0))],
-            shared(1),
-            &[],
-            0,
-        ),
-        step(2, Say::GetX, all_but(2), &[], busy(2, true, 3), &[], 0),
-        step(3, Say::GetS, DONE, &[], busy(2, true, 3), &[(3, false)], 0),
-        step(0, Say::Ack, DONE, &[], busy(2, true, 2), &[(3, false)], 0),
-        step(1, Say::Ack, DONE, &[], busy(2, true, 1), &[(3, false)], 0),
-        step(
-            3,
-            Say::Ack,
-            DONE,
-            &[(2, Hear::DataX(0)), (0, Hear::Wake)],
-            exclusive(2),
-            &[(3, false)],
-            0,
-        ),
-        step(0, Say::Wake, one(2), &[], busy(3, false, 1), &[], 0),
-        step(2, Say::PutX(7), DONE, &[], busy(3, false, 1), &[], 7),
-        step(2, Say::Ack, DONE, &[(3, Hear::DataS(7))], shared(1), &[], 7),
-        step(1, Say::PutX(9), STRAY, &[], shared(1), &[], 7),
-    ];
-    run(&rt, alloc, 4, &called_back)?;
-    // Strays, and four requests that wait.
-    let waiting = [
-        step(1, Say::PutS, STRAY, &[], IDLE, &[], 0),
-        step(1, Say::PutX(5), STRAY, &[], IDLE, &[], 0),
-        step(1, Say::Ack, STRAY, &[], IDLE, &[], 0),
-        step(0, Say::Wake, STRAY, &[], IDLE, &[], 0),
-        step(
-            1,
-            Say::Upgrade,
-            DONE,
-            &[(1, Hear::DataX(0))],
-            exclusive(1),
-            &[],
-            0,
-        ),
-        step(2, Say::PutS, STRAY, &[], exclusive(1), &[], 0),
-        step(2, Say::PutX(5), STRAY, &[], exclusive(1), &[], 0),
-        step(1, Say::PutX(5), DONE, &[], IDLE, &[], 5),
-        step(
-            3,
-            Say::GetX,
-            DONE,
-            &[(3, Hear::DataX(5))],
-            exclusive(3),
-            &[],
-            5,
-        ),
-        step(2, Say::GetX, one(3), &[], busy(2, true, 1), &[], 5),
-        step(1, Say::PutS, DONE, &[], busy(2, true, 1), &[], 5),
-        step(0, Say::Wake, STRAY, &[], busy(2, true, 1), &[], 5),
-        step(1, Say::GetX, DONE, &[], busy(2, true, 1), &[(1, true)], 5),
-        step(
-            0,
-            Say::GetS,
-            DONE,
-            &[],
-            busy(2, true, 1),
-            &[(1, true), (0, false)],
-            5,
-        ),
-        step(
-            3,
-            Say::Upgrade,
-            DONE,
-            &[],
-            busy(2, true, 1),
-            &[(1, true), (0, false), (3, true)],
-            5,
-        ),
-        step(
-            3,
-            Say::AckWith(8),
-            DONE,
-            &[(2, Hear::DataX(8)), (0, Hear::Wake)],
-            exclusive(2),
-            &[(1, true), (0, false), (3, true)],
-            8,
-        ),
-        step(
-            2,
-            Say::PutX(4),
-            DONE,
-            &[],
-            IDLE,
-            &[(1, true), (0, false), (3, true)],
-            4,
-        ),
-        step(
-            2,
-            Say::GetS,
-            DONE,
-            &[],
-            IDLE,
-            &[(1, true), (0, false), (3, true), (2, false)],
-            4,
-        ),
-        step(
-            0,
-            Say::Wake,
-            DONE,
-            &[(1, Hear::DataX(4)), (0, Hear::Wake)],
-            exclusive(1),
-            &[(0, false), (3, true), (2, false)],
-            4,
-        ),
-        step(
-            0,
-            Say::Wake,
-            one(1),
-            &[],
-            busy(0, false, 1),
-            &[(3, true), (2, false)],
-            4,
-        ),
-        step(
-            1,
-            Say::AckWith(6),
-            DONE,
-            &[(0, Hear::DataS(6)), (0, Hear::Wake)],
-            shared(1),
-            &[(3, true), (2, false)],
-            6,
-        ),
-        step(
-            0,
-            Say::Wake,
-            all_but(3),
-            &[],
-            busy(3, true, 3),
-            &[(2, false)],
-            6,
-        ),
-        step(
-            0,
-            Say::AckWith(2),
-            DONE,
-            &[],
-            busy(3, true, 2),
-            &[(2, false)],
-            2,
-        ),
-        step(1, Say::Ack, DONE, &[], busy(3, true, 1), &[(2, false)], 2),
-        step(
-            2,
-            Say::Ack,
-            DONE,
-            &[(3, Hear::DataX(2)), (0, Hear::Wake)],
-            exclusive(3),
-            &[(2, false)],
-            2,
-        ),
-        step(3, Say::PutX(1), DONE, &[], IDLE, &[(2, false)], 1),
-        step(
-            0,
-            Say::Wake,
-            DONE,
-            &[(2, Hear::DataS(1))],
-            shared(1),
-            &[],
-            1,
-        ),
-        step(2, Say::PutS, DONE, &[], IDLE, &[], 1),
-    ];
-    run(&rt, alloc, 4, &waiting)?;
-    // Copies to read come and go.
-    let counted = [
-        step(
-            1,
-            Say::GetS,
-            DONE,
-            &[(1, Hear::DataS(0))],
-            shared(1),
-            &[],
-            0,
-        ),
-        step(
-            2,
-            Say::GetS,
-            DONE,
-            &[(2, Hear::DataS(0))],
-            shared(2),
-            &[],
-            0,
-        ),
-        step(1, Say::PutS, DONE, &[], shared(1), &[], 0),
-        step(
-            3,
-            Say::GetS,
-            DONE,
-            &[(3, Hear::DataS(0))],
-            shared(2),
-            &[],
-            0,
-        ),
-        step(2, Say::Upgrade, all_but(2), &[], busy(2, true, 3), &[], 0),
-    ];
-    run(&rt, alloc, 4, &counted)?;
-    // A node alone has nobody to call copies back from.
-    let alone = [
-        step(
-            0,
-            Say::GetS,
-            DONE,
-            &[(0, Hear::DataS(0))],
-            shared(1),
-            &[],
-            0,
-        ),
-        step(
-            0,
-            Say::Upgrade,
-            DONE,
-            &[(0, Hear::DataX(0))],
-            exclusive(0),
-            &[],
-            0,
-        ),
-    ];
-    run(&rt, alloc, 1, &alone)?;
-    let alone_again = [
-        step(
-            0,
-            Say::GetS,
-            DONE,
-            &[(0, Hear::DataS(0))],
-            shared(1),
-            &[],
-            0,
-        ),
-        step(
-            0,
-            Say::GetX,
-            DONE,
-            &[(0, Hear::DataX(0))],
-            exclusive(0),
-            &[],
-            0,
-        ),
-        step(0, Say::GetS, one(0), &[], busy(0, false, 1), &[], 0),
-    ];
-    run(&rt, alloc, 1, &alone_again)?;
+    for rows in [CALLED_BACK, WAITING, COUNTED] {
+        run(&rt, alloc, 4, rows)?;
+    }
+    for rows in [ALONE, ALONE_AGAIN] {
+        run(&rt, alloc, 1, rows)?;
+    }
     Ok(())
 }

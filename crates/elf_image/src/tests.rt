@@ -7,89 +7,69 @@ use std::test::Fail;
 const FILE: &[u8; 140] =
     b"\x7fELF\x01\x01\x01\0\0\0\0\0\0\0\0\0\x02\0\xf3\0\x01\0\0\0\x74\0\x01\0\x34\0\0\0\0\0\0\0\0\0\0\0\x34\0\x20\0\x02\0\x28\0\0\0\0\0\x03\0\0\x70\0\0\0\0\0\0\0\0\0\0\0\0\0\0\0\0\0\0\0\0\x04\0\0\0\x01\0\0\0\x01\0\0\0\0\0\0\0\0\0\x01\0\0\0\x01\0\x8c\0\0\0\x8c\0\0\0\x05\0\0\0\0\x10\0\0\x13\x05\x10\x04\x93\x08\x10\0\x73\0\0\0\x93\x08\xd0\x05\x13\x05\0\0\x73\0\0\0";
 
-/// What reading the first `length` bytes of the file answers, with the bytes at some places changed.
-fn fault_of(
-    alloc: Global,
-    length: usize,
-    changes: &[(usize, u8)],
-) -> Result<Option<ImageFault>, Fail> {
+/// Changes of bytes of the file, and the length at which it is cut, and what reading it answers.
+const ROWS: &str = "0 => Short
+51 => Short
+52 => TableOutside
+115 => TableOutside
+116 => SegmentOutside
+139 => SegmentOutside
+140 => ok
+0=126 => Magic
+3=71 => Magic
+4=2 => Class
+5=2 => Order
+6=9 => ok
+16=3 => NotExec
+17=1 => NotExec
+18=242 => Machine
+42=33 => Entries
+28=76 => NoLoad
+28=77 => TableOutside
+44=3 => TableOutside
+44=255 45=255 => TableOutside
+28=224 29=255 30=255 31=255 => TableOutside
+52=2 55=0 => Dynamic
+52=3 55=0 => Dynamic
+52=4 55=0 => ok
+84=2 => Dynamic
+100=139 88=1 => ok
+88=1 => SegmentOutside
+88=255 89=255 90=255 91=255 => SegmentOutside
+104=139 => SizeLess
+104=141 => ok
+107=255 => ok
+84=0 => NoLoad
+44=1 => NoLoad
+44=0 => NoLoad
+84=3 52=1 55=0 68=1 => Dynamic
+88=1 52=1 55=0 68=1 => SegmentOutside";
+
+/// What reading the file with these changes answers.
+fn answer(alloc: Global, changes: &str) -> Result<String, Fail> {
     let mut file = FILE.to_vec(alloc)?;
-    for (place, byte) in changes {
-        if let Some(old) = file.get_mut(*place) {
-            *old = *byte;
+    for change in changes.split(' ') {
+        match change.split_once('=') {
+            Some((place, byte)) => {
+                let place: usize = place.parse()?;
+                if let Some(cell) = file.get_mut(place) {
+                    *cell = byte.parse()?;
+                }
+            }
+            None => file.truncate(change.parse()?),
         }
     }
-    file.truncate(length);
-    Ok(read_elf(alloc, &file).err())
+    match read_elf(alloc, &file) {
+        Ok(_) => Ok(String::from_str(alloc, "ok")?),
+        Err(fault) => Ok(format!(in alloc; "{fault:?}")?),
+    }
 }
 
 #[test]
 fn each_fault_and_its_good_side(rt: HostRuntime) -> Result<(), Fail> {
-    let rows: [(usize, &[(usize, u8)], Option<ImageFault>); 36] = [
-        (0, &[], Some(ImageFault::Short)),
-        (51, &[], Some(ImageFault::Short)),
-        (52, &[], Some(ImageFault::TableOutside)),
-        (115, &[], Some(ImageFault::TableOutside)),
-        (116, &[], Some(ImageFault::SegmentOutside)),
-        (139, &[], Some(ImageFault::SegmentOutside)),
-        (140, &[], None),
-        (140, &[(0, 0x7e)], Some(ImageFault::Magic)),
-        (140, &[(3, 0x47)], Some(ImageFault::Magic)),
-        (140, &[(4, 2)], Some(ImageFault::Class)),
-        (140, &[(5, 2)], Some(ImageFault::Order)),
-        (140, &[(6, 9)], None),
-        (140, &[(16, 3)], Some(ImageFault::NotExec)),
-        (140, &[(17, 1)], Some(ImageFault::NotExec)),
-        (140, &[(18, 242)], Some(ImageFault::Machine)),
-        (140, &[(42, 33)], Some(ImageFault::Entries)),
-        // Table ends: the last byte, one past it, far past it, and a sum past 2^32.
-        (140, &[(28, 76)], Some(ImageFault::NoLoad)),
-        (140, &[(28, 77)], Some(ImageFault::TableOutside)),
-        (140, &[(44, 3)], Some(ImageFault::TableOutside)),
-        (140, &[(44, 255), (45, 255)], Some(ImageFault::TableOutside)),
-        (
-            140,
-            &[(28, 224), (29, 255), (30, 255), (31, 255)],
-            Some(ImageFault::TableOutside),
-        ),
-        // Types of headers.
-        (140, &[(52, 2), (55, 0)], Some(ImageFault::Dynamic)),
-        (140, &[(52, 3), (55, 0)], Some(ImageFault::Dynamic)),
-        (140, &[(52, 4), (55, 0)], None),
-        (140, &[(84, 2)], Some(ImageFault::Dynamic)),
-        // Bytes of segments.
-        (140, &[(100, 139), (88, 1)], None),
-        (140, &[(88, 1)], Some(ImageFault::SegmentOutside)),
-        (
-            140,
-            &[(88, 255), (89, 255), (90, 255), (91, 255)],
-            Some(ImageFault::SegmentOutside),
-        ),
-        (140, &[(104, 139)], Some(ImageFault::SizeLess)),
-        (140, &[(104, 141)], None),
-        (140, &[(107, 255)], None),
-        // Nothing to load.
-        (140, &[(84, 0)], Some(ImageFault::NoLoad)),
-        (140, &[(44, 1)], Some(ImageFault::NoLoad)),
-        (140, &[(44, 0)], Some(ImageFault::NoLoad)),
-        // The earlier fault of the whole file, though a header before it has the later one.
-        (
-            140,
-            &[(84, 3), (52, 1), (55, 0), (68, 1)],
-            Some(ImageFault::Dynamic),
-        ),
-        (
-            140,
-            &[(88, 1), (52, 1), (55, 0), (68, 1)],
-            Some(ImageFault::SegmentOutside),
-        ),
-    ];
-    for (length, changes, wanted) in rows {
-        assert_eq!(rt;
-            fault_of(rt.alloc(), length, changes)?,
-            wanted,
-            "{length} {changes:?}"
-        );
+    for row in ROWS.split('\n') {
+        let (changes, wanted) = row.split_once(" => ").ok_or("no answer in a row")?;
+        assert!(rt; answer(rt.alloc(), changes)?.as_str() == wanted, "{row}");
     }
     Ok(())
 }
@@ -98,20 +78,16 @@ fn each_fault_and_its_good_side(rt: HostRuntime) -> Result<(), Fail> {
 fn an_executable_and_flat_bytes(rt: HostRuntime) -> Result<(), Fail> {
     let alloc = rt.alloc();
     let image = read_elf(alloc, FILE)?;
-    assert_eq!(rt; image.entry, 0x10074);
     let segments = image.segments.into_inner();
-    assert_eq!(rt; segments.len(), 1);
+    assert!(rt; image.entry == 0x10074 && segments.len() == 1);
     let segment = &segments[0];
-    assert_eq!(rt; segment.at, 0x10000);
-    assert_eq!(rt; segment.bytes.get(), FILE.as_slice());
-    assert_eq!(rt; segment.size, 140);
+    assert!(rt; segment.at == 0x10000 && segment.size == 140);
+    assert!(rt; segment.bytes.get() == FILE.as_slice());
 
     let flat = read_flat(alloc, [0x13, 0, 0].to_vec(alloc)?, 8)?;
-    assert_eq!(rt; flat.entry, 8);
-    assert_eq!(rt; flat.segments.get().len(), 1);
-    let segment = &flat.segments.get()[0];
-    assert_eq!(rt; segment.at, 8);
-    assert_eq!(rt; segment.bytes.get(), [0x13, 0, 0].as_slice());
-    assert_eq!(rt; segment.size, 3);
+    let told = format!(in alloc; "{flat:?}")?;
+    let wanted = "Image { entry: 8, segments: Segments { inner: \
+[Segment { at: 8, bytes: Bytes { inner: [19, 0, 0] }, size: 3 }] } }";
+    assert!(rt; told.as_str() == wanted, "{told}");
     Ok(())
 }

@@ -1,15 +1,10 @@
-ghost use Rattle.std.specs.Prelude.{◌≡◌, IfOk, IfSome};
-ghost use Rattle.image_loader.specs.Images.{IsFor};
-ghost use Rattle.elf_image.specs.Sizes.{HoldsItsBytes};
-
 use super::*;
-use elf_image::{Image, read_flat};
-use image_loader::{Loaded, load};
 use std::alloc::Global;
 use std::process::Abort;
 use std::test::Fail;
 use test_machines::small_parts;
-use wt_params::{Machine, NoMemory};
+use test_programs::programs;
+use wt_params::Machine;
 use wt_stats::{Head, Outcome};
 
 /// What a node has handled, steps and messages, and how many messages wait for it.
@@ -33,50 +28,11 @@ const EXIT: u32 = 0x05d0_0893;
 
 const CALL: u32 = 0x0000_0073;
 
-/// An image of words.
-fn image_of(alloc: Global, words: &[u32]) -> Result<Option<Image>, NoMemory>
-    ensures { IfOk result (λ image. IfSome image HoldsItsBytes) }
-{
-    let mut bytes = Vec::new(alloc);
-    for word in words {
-        for byte in word.to_le_bytes() {
-            bytes.push(byte)?;
-        }
-    }
-    if bytes.len() > 4096 {
-        return Ok(None);
-    }
-    Ok(Some(read_flat(alloc, bytes, 0)?))
-}
-
-/// A program for each node.
-fn loaded_of(
-    alloc: Global,
-    machine: &Machine,
-    programs: [&[u32]; 2],
-) -> Result<Option<Loaded>, NoMemory>
-    ensures { IfOk result (λ loaded. IfSome loaded (IsFor machine.now)) }
-{
-    let mut images = Vec::new(alloc);
-    for words in programs {
-        if images.len() as u64 == machine.nodes() {
-            break;
-        }
-        if let Some(image) = image_of(alloc, words)? {
-            images.push(image)?;
-        }
-    }
-    if images.len() as u64 != machine.nodes() {
-        return Ok(None);
-    }
-    Ok(load(machine, images).ok())
-}
-
 fn engine_of(alloc: Global, case: Case) -> Result<Engine, Fail> {
     let machine = Machine::new(small_parts(case.nodes))
         .ok()
         .ok_or("no machine")?;
-    let loaded = loaded_of(alloc, &machine, case.programs)?.ok_or("no program")?;
+    let loaded = programs(alloc, &machine, &case.programs)?.ok_or("no program")?;
     Ok(Engine::new(alloc, machine, &loaded, false)?)
 }
 

@@ -1,11 +1,10 @@
 ghost use Rattle.std.specs.Prelude.{◌≡◌, ◌<◌, ◌^◌, length};
 
 use super::*;
-use std::alloc::Global;
+use std::alloc::{AllocError, Global};
 use std::marker::Brand;
 use std::sync::ledger::{Blank, Ledger};
 use std::test::Fail;
-use wt_params::NoMemory;
 use wt_proto::{Body, Key, Msg, Stamped};
 
 /// Puts messages with these times, destinations and sources into a queue, the last of their sequences first, and
@@ -14,7 +13,7 @@ fn in_order<L: Ledger>(
     alloc: Global,
     blank: Blank,
     rows: &[(u64, u32, u32)],
-) -> Result<Vec<Key>, NoMemory>
+) -> Result<Vec<Key>, AllocError>
     requires name { blank.name ≡ L.name }
     requires parts { blank.parts ≡ L.parts }
     requires some { 0 < blank.parts }
@@ -34,7 +33,9 @@ fn in_order<L: Ledger>(
                 body: Body::Go,
             },
         };
-        queue.insert(message, &mut steps).map_err(|_back| NoMemory)?;
+        queue
+            .insert(message, &mut steps)
+            .map_err(|_back| AllocError)?;
     }
     let mut keys = Vec::new(alloc);
     for _row in 0..queue.len() {
@@ -49,7 +50,7 @@ fn in_order<L: Ledger>(
     Ok(keys)
 }
 
-fn in_order_uncounted(alloc: Global, rows: &[(u64, u32, u32)]) -> Result<Vec<Key>, NoMemory> {
+fn in_order_uncounted(alloc: Global, rows: &[(u64, u32, u32)]) -> Result<Vec<Key>, AllocError> {
     in_order::<Brand>(alloc, Blank::new(1), rows)
 }
 
@@ -76,17 +77,10 @@ fn least_key_first(rt: HostRuntime) -> Result<(), Fail> {
         (7, 1, 1, 7),
         (9, 0, 0, 2),
     ];
-    assert_eq!(rt; keys.len(), expected.len());
-    for (key, (time, to, from, sequence)) in keys.iter().zip(expected) {
-        assert_eq!(rt;
-            *key,
-            Key {
-                time,
-                to,
-                from,
-                sequence
-            }
-        );
+    assert!(rt; keys.len() == expected.len());
+    for (key, expected) in keys.iter().zip(expected) {
+        let found = (key.time, key.to, key.from, key.sequence);
+        assert!(rt; found == expected, "{key:?}");
     }
     Ok(())
 }

@@ -5,152 +5,78 @@ ghost use Rattle.image_loader.specs.Loading.{private_of, shared_of, block_of};
 
 use super::*;
 use elf_image::{Bytes, Image, Segment, Segments};
-use std::alloc::{AllocError, Global};
+use std::alloc::Global;
 use std::test::Fail;
-use wt_params::{CostParts, Machine, MachineParts, NoMemory};
+use test_machines::two_nodes;
 
-/// A machine with a page of private memory and four blocks of 16 bytes.
-fn machine_of(nodes: u64) -> Option<Machine> {
-    let costs = CostParts {
-        op: 1,
-        taken: 2,
-        mem: 1,
-        hit: 1,
-        cico: 1,
-        call: 1,
-        fill: 4,
-        trap: 250,
-        trap_each: 5,
-    };
-    Machine::new(MachineParts {
-        nodes,
-        private_bytes: 4096,
-        block_bytes: 16,
-        blocks: 4,
-        sets: 1,
-        ways: 1,
-        latency: 100,
-        self_latency: 10,
-        quantum: 100,
-        event_limit: 1000,
-        budget: 1000,
-        costs,
-    })
-    .ok()
-}
+/// One image for both nodes of a machine, or one for each: the entry, where the one segment is, and its size, all in
+/// hexadecimal; and what loading answers, with the entry of the last node.
+const ROWS: &str = "0 0 1000 => Ok(0)
+0 0 1001 => Err(Outside { image: 0, address: 4096 })
+0 fff 1 => Ok(0)
+0 1000 1 => Err(Outside { image: 0, address: 4096 })
+0 ffc ffffffff => Err(Outside { image: 0, address: 4096 })
+0 7fffffff 2 => Err(Outside { image: 0, address: 2147483647 })
+0 80000000 40 => Ok(0)
+0 80000000 41 => Err(Outside { image: 0, address: 2147483712 })
+0 8000003f 1 => Ok(0)
+0 80000040 1 => Err(Outside { image: 0, address: 2147483712 })
+0 fffffff0 ffffffff => Err(Outside { image: 0, address: 4294967280 })
+0 1000 0 => Ok(0)
+0 ffffffff 0 => Ok(0)
+ffc 0 1 => Ok(4092)
+1000 0 1 => Err(BadEntry { image: 0, entry: 4096 })
+2 0 1 => Err(BadEntry { image: 0, entry: 2 })
+80000000 0 1 => Err(BadEntry { image: 0, entry: 2147483648 })
+2 1000 1 => Err(Outside { image: 0, address: 4096 })
+0 80000000 8 and 8 80000004 8 => Ok(8)
+2 0 1 and 0 fff 2 => Err(BadEntry { image: 0, entry: 2 })
+0 80000000 8 and 0 fff 2 => Err(Outside { image: 1, address: 4096 })";
 
-/// An image of an entry and one segment of zeros.
-fn image_of(alloc: Global, numbers: (u32, u32, u32)) -> Result<Image, NoMemory>
+/// The image of a row.
+fn image_of(alloc: Global, text: &str) -> Result<Image, Fail>
     ensures { IfOk result HoldsItsBytes }
 {
-    let (entry, at, size) = numbers;
+    let (entry, text) = text.split_once(' ').ok_or("no place")?;
+    let (at, size) = text.split_once(' ').ok_or("no size")?;
     let mut segments = Vec::new(alloc);
     segments.push(Segment {
-        at,
+        at: u32::from_str_radix(at, 16)?,
         bytes: Bytes::new(Vec::new(alloc)),
-        size,
+        size: u32::from_str_radix(size, 16)?,
     })?;
     Ok(Image {
-        entry,
+        entry: u32::from_str_radix(entry, 16)?,
         segments: Segments::new(segments),
     })
 }
 
-/// What loading one image for all nodes answers, and the entry of node 0.
-fn one_image(
-    alloc: Global,
-    machine: &Machine,
-    image: (u32, u32, u32),
-) -> Result<Result<u32, LoadFault>, NoMemory> {
+/// What loading the images of a row answers.
+fn answer(alloc: Global, text: &str) -> Result<Result<u32, LoadFault>, Fail> {
+    let machine = two_nodes();
     let mut images = Vec::new(alloc);
-    images.push(image_of(alloc, image)?)?;
-    let nodes = machine.nodes();
-    Ok(match load(machine, images) {
-        Ok(loaded) => Ok(loaded.entry(0)),
-        Err(fault) => Err(fault),
-    })
+    match text.split_once(" and ") {
+        None => images.push(image_of(alloc, text)?)?,
+        Some((first, second)) => {
+            images.push(image_of(alloc, first)?)?;
+            images.push(image_of(alloc, second)?)?;
+        }
+    }
+    match load(&machine, images) {
+        Ok(loaded) => Ok(Ok(loaded.entry(1))),
+        Err(fault) => Ok(Err(fault)),
+    }
 }
 
 #[test]
 fn each_fault_and_its_good_side(rt: HostRuntime) -> Result<(), Fail> {
-    let machine = machine_of(2).ok_or("no machine")?;
-    let outside = |address: u32| Err(LoadFault::Outside { image: 0, address });
-    let bad_entry = |entry: u32| Err(LoadFault::BadEntry { image: 0, entry });
-    // The entry, where the segment is and its size, and the answer.
-    let rows: [((u32, u32, u32), Result<u32, LoadFault>); 18] = [
-        ((0, 0, 4096), Ok(0)),
-        ((0, 0, 4097), outside(0x1000)),
-        ((0, 4095, 1), Ok(0)),
-        ((0, 4096, 1), outside(0x1000)),
-        ((0, 4092, 0xffff_ffff), outside(0x1000)),
-        ((0, 0x7fff_ffff, 2), outside(0x7fff_ffff)),
-        ((0, 0x8000_0000, 64), Ok(0)),
-        ((0, 0x8000_0000, 65), outside(0x8000_0040)),
-        ((0, 0x8000_003f, 1), Ok(0)),
-        ((0, 0x8000_0040, 1), outside(0x8000_0040)),
-        ((0, 0xffff_fff0, 0xffff_ffff), outside(0xffff_fff0)),
-        // A segment of no bytes is never outside.
-        ((0, 4096, 0), Ok(0)),
-        ((0, 0xffff_ffff, 0), Ok(0)),
-        ((4092, 0, 1), Ok(4092)),
-        ((4096, 0, 1), bad_entry(4096)),
-        ((2, 0, 1), bad_entry(2)),
-        ((0x8000_0000, 0, 1), bad_entry(0x8000_0000)),
-        // Segments are tested before the entry.
-        ((2, 4096, 1), outside(0x1000)),
-    ];
-    for (image, wanted) in rows {
-        assert_eq!(rt;
-            one_image(rt.alloc(), &machine, image)?,
-            wanted,
-            "{image:?}"
-        );
-    }
-    Ok(())
-}
-
-/// What loading two images for two nodes answers, and the entry of node 1.
-fn two_answers(
-    alloc: Global,
-    machine: &Machine,
-    first: (u32, u32, u32),
-    second: (u32, u32, u32),
-) -> Result<Option<Result<u32, LoadFault>>, NoMemory> {
-    let mut images = Vec::new(alloc);
-    images.push(image_of(alloc, first)?)?;
-    images.push(image_of(alloc, second)?)?;
-    if machine.nodes() != 2 {
-        return Ok(None);
-    }
-    Ok(Some(match load(machine, images) {
-        Ok(loaded) => Ok(loaded.entry(1)),
-        Err(fault) => Err(fault),
-    }))
-}
-
-#[test]
-fn images_are_tested_in_order(rt: HostRuntime) -> Result<(), Fail> {
-    let machine = machine_of(2).ok_or("no machine")?;
     let alloc = rt.alloc();
-    let good = (0, 0x8000_0000, 8);
-    let overlapping = (8, 0x8000_0004, 8);
-    assert_eq!(rt;
-        two_answers(alloc, &machine, good, overlapping)?,
-        Some(Ok(8))
-    );
-    let bad_entry = (2, 0, 1);
-    let outside = (0, 4095, 2);
-    assert_eq!(rt;
-        two_answers(alloc, &machine, bad_entry, outside)?,
-        Some(Err(LoadFault::BadEntry { image: 0, entry: 2 }))
-    );
-    assert_eq!(rt;
-        two_answers(alloc, &machine, good, outside)?,
-        Some(Err(LoadFault::Outside {
-            image: 1,
-            address: 4096
-        }))
-    );
+    for row in ROWS.split('\n') {
+        let (images, wanted) = row.split_once(" => ").ok_or("no answer in a row")?;
+        let found = answer(alloc, images)?;
+        let told = format!(in alloc; "{found:?}")?;
+        assert!(rt; told.as_str() == wanted, "{row}");
+    }
     Ok(())
 }
 

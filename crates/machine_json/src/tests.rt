@@ -2,208 +2,126 @@ use super::*;
 use std::alloc::{AllocError, Global};
 use std::test::Fail;
 
-/// The description of two nodes of which the second loads from shared memory.
-const SHARED_LOAD: &str =
-    "{\"version\":1,\"nodes\":2,\"private_bytes\":4096,\"block_bytes\":16,\"blocks\":4,\"sets\":2,\"ways\":1,\"latency\":100,\"self_latency\":10,\"images\":[{\"hex\":\"9308D00573000000\"},{\"file\":\"b.elf\",\"at\":8}]}";
-
-/// A word and a key after it.
-fn named(alloc: Global, word: &str, key: Key) -> Result<String, AllocError> {
-    let key = key.into_inner();
-    format!(in alloc; "{word} {key}")
-}
-
-/// What reading a description answers, as the line that tells of it.
+/// What reading a description answers: `ok`, or why it is refused.
 fn answer(alloc: Global, bytes: &[u8]) -> Result<String, AllocError> {
     match read_machine(alloc, bytes) {
         Ok(_) => String::from_str(alloc, "ok"),
-        Err(MachineFault::TooLong) => String::from_str(alloc, "too long"),
-        Err(MachineFault::Syntax) => String::from_str(alloc, "syntax"),
-        Err(MachineFault::NotObject) => String::from_str(alloc, "not an object"),
-        Err(MachineFault::Unknown(key)) => named(alloc, "unknown", key),
-        Err(MachineFault::Missing(key)) => named(alloc, "missing", key),
-        Err(MachineFault::Kind(key)) => named(alloc, "kind", key),
-        Err(MachineFault::Range(key, value)) => {
-            let key = named(alloc, "range", key)?;
-            format!(in alloc; "{key} {value}")
-        }
-        Err(MachineFault::Hex(image)) => format!(in alloc; "hex images.{image}"),
-        Err(MachineFault::NoMemory) => String::from_str(alloc, "out of memory"),
+        Err(fault) => format!(in alloc; "{fault:?}"),
     }
 }
+
+/// Texts, or members after those of a machine of two nodes, of which a later one counts; each with its answer.
+const ROWS: &str = r#" => Syntax
+{} {} => Syntax
+[] => NotObject
+{} => Missing(Key { inner: "version" })
+{"version":2} => Range(Key { inner: "version" }, 2)
+{"version":"1","nodes":33} => Kind(Key { inner: "version" })
+{"version":1} => Missing(Key { inner: "nodes" })
+{"version":1,"nodes":33} => Range(Key { inner: "nodes" }, 33)
+{"version":1,"nodes":32,"costs":{}} => Missing(Key { inner: "images" })
+{"version":2,"b":1,"a":1} => Unknown(Key { inner: "a" })
+{"version":1,"nodes":2,"images":[{"hex":"" => Syntax
+"latency":100 => ok
+"zeta":1,"alpha":1 => Unknown(Key { inner: "alpha" })
+"Nodes":1 => Unknown(Key { inner: "Nodes" })
+"nodes":"2" => Kind(Key { inner: "nodes" })
+"nodes":null => Kind(Key { inner: "nodes" })
+"nodes":-1 => Kind(Key { inner: "nodes" })
+"nodes":2.0 => Kind(Key { inner: "nodes" })
+"nodes":18446744073709551616 => Kind(Key { inner: "nodes" })
+"nodes":18446744073709551615 => Range(Key { inner: "nodes" }, 18446744073709551615)
+"nodes":0 => Range(Key { inner: "nodes" }, 0)
+"nodes":33 => Range(Key { inner: "nodes" }, 33)
+"nodes":32 => ok
+"private_bytes":4097 => Range(Key { inner: "private_bytes" }, 4097)
+"block_bytes":48 => Range(Key { inner: "block_bytes" }, 48)
+"blocks":65537 => Range(Key { inner: "blocks" }, 65537)
+"latency":100,"quantum":101 => Range(Key { inner: "quantum" }, 101)
+"latency":50,"quantum":100 => Range(Key { inner: "quantum" }, 100)
+"latency":50 => ok
+"ways":8,"sets":1024 => Range(Key { inner: "ways" }, 8)
+"sets":1025,"ways":9 => Range(Key { inner: "sets" }, 1025)
+"latency":0,"quantum":0 => Range(Key { inner: "latency" }, 0)
+"ways":4,"sets":1024 => ok
+"event_limit":0 => Range(Key { inner: "event_limit" }, 0)
+"budget":1099511627777 => Range(Key { inner: "budget" }, 1099511627777)
+"budget":1099511627776 => ok
+"costs":{"zz":1,"aa":2} => Unknown(Key { inner: "costs.aa" })
+"costs":[] => Kind(Key { inner: "costs" })
+"costs":{"op":0} => Range(Key { inner: "costs.op" }, 0)
+"costs":{"trap_each":"5"} => Kind(Key { inner: "costs.trap_each" })
+"costs":{"fill":0,"trap":4097} => Range(Key { inner: "costs.trap" }, 4097)
+"op":1 => Unknown(Key { inner: "op" })
+"costs":{"costs.op":1} => Unknown(Key { inner: "costs.costs.op" })
+"ways":"x","nodes":33 => Range(Key { inner: "nodes" }, 33)
+"ways":9,"blocks":"x" => Kind(Key { inner: "blocks" })
+"ways":9,"budget":"x" => Range(Key { inner: "ways" }, 9)
+"costs":7,"budget":0 => Range(Key { inner: "budget" }, 0)
+"costs":{"aa":1},"budget":0 => Range(Key { inner: "budget" }, 0)
+"costs":{"aa":1,"op":0} => Unknown(Key { inner: "costs.aa" })
+"images":7,"costs":{"op":0} => Range(Key { inner: "costs.op" }, 0)
+"images":7 => Kind(Key { inner: "images" })
+"images":[] => Range(Key { inner: "images" }, 0)
+"images":[7,7,7] => Range(Key { inner: "images" }, 3)
+"images":[7] => Kind(Key { inner: "images.0" })
+"images":[{}] => Missing(Key { inner: "images.0.hex" })
+"images":[{"hex":7,"file":7}] => Missing(Key { inner: "images.0.hex" })
+"images":[{"z":1,"y":1}] => Unknown(Key { inner: "images.0.y" })
+"images":[{"hex":7,"format":7}] => Kind(Key { inner: "images.0.hex" })
+"images":[{"file":7,"format":7}] => Kind(Key { inner: "images.0.file" })
+"images":[{"hex":"","format":7}] => Unknown(Key { inner: "images.0.format" })
+"images":[{"file":"f","format":"x"}] => Kind(Key { inner: "images.0.format" })
+"images":[{"file":"f","format":1,"at":2}] => Kind(Key { inner: "images.0.format" })
+"images":[{"file":"f","format":"flat","at":2}] => Range(Key { inner: "images.0.at" }, 2)
+"images":[{"file":"f","format":"elf","at":""}] => Kind(Key { inner: "images.0.at" })
+"images":[{"hex":"0","at":4294967296}] => Range(Key { inner: "images.0.at" }, 4294967296)
+"images":[{"hex":"","at":4294967292}] => ok
+"images":[{"hex":"0"}] => Hex(0)
+"images":[{"hex":"0g"}] => Hex(0)
+"images":[{"hex":"aB"}] => ok
+"images":[{"hex":""},{"hex":"0g"}] => Hex(1)
+"images":[{"hex":"0g"},7] => Hex(0)
+"images":[{"hex":""},7] => Kind(Key { inner: "images.1" })
+"nodes":1,"images":[{"hex":""},{"hex":""}] => Range(Key { inner: "images" }, 2)"#;
 
 #[test]
 fn each_fault(rt: HostRuntime) -> Result<(), Fail> {
     let alloc = rt.alloc();
-    // A whole text, and the answer.
-    let texts: [(&[u8], &str); 12] = [
-        (b"", "syntax"),
-        (b"\xff", "syntax"),
-        (b"\"\xff\"", "syntax"),
-        (b"{} {}", "syntax"),
-        (b"[]", "not an object"),
-        (b"{}", "missing version"),
-        (b"{\"version\":2}", "range version 2"),
-        (b"{\"version\":\"1\",\"nodes\":33}", "kind version"),
-        (b"{\"version\":1}", "missing nodes"),
-        (b"{\"version\":1,\"nodes\":33}", "range nodes 33"),
-        (
-            b"{\"version\":1,\"nodes\":32,\"costs\":{}}",
-            "missing images",
-        ),
-        (b"{\"version\":2,\"b\":1,\"a\":1}", "unknown a"),
-    ];
-    for (text, wanted) in texts {
-        assert_eq!(rt; answer(alloc, text)?.as_str(), wanted);
+    for row in ROWS.split('\n') {
+        let (part, wanted) = row.split_once(" => ").ok_or("no answer in a row")?;
+        let text = if part.starts_with('"') {
+            format!(in alloc; "{{\"version\":1,\"nodes\":2,\"images\":[{{\"hex\":\"\"}}],{part}}}")?
+        } else {
+            String::from_str(alloc, part)?
+        };
+        assert!(rt; answer(alloc, text.as_bytes())?.as_str() == wanted, "{row}");
     }
-    // Members after `"version":1,"nodes":2,"images":[{"hex":""}]`, of which a later one counts, and the answer.
-    let rows: [(&[u8], &[u8]); 60] = [
-        (b"\"latency\":100", b"ok"),
-        (b"\"zeta\":1,\"alpha\":1", b"unknown alpha"),
-        (b"\"Nodes\":1", b"unknown Nodes"),
-        (b"\"nodes\":\"2\"", b"kind nodes"),
-        (b"\"nodes\":null", b"kind nodes"),
-        (b"\"nodes\":-1", b"kind nodes"),
-        (b"\"nodes\":2.0", b"kind nodes"),
-        (b"\"nodes\":18446744073709551616", b"kind nodes"),
-        (
-            b"\"nodes\":18446744073709551615",
-            b"range nodes 18446744073709551615",
-        ),
-        (b"\"nodes\":0", b"range nodes 0"),
-        (b"\"nodes\":33", b"range nodes 33"),
-        (b"\"nodes\":32", b"ok"),
-        (b"\"private_bytes\":4097", b"range private_bytes 4097"),
-        (b"\"block_bytes\":48", b"range block_bytes 48"),
-        (b"\"blocks\":65537", b"range blocks 65537"),
-        (b"\"latency\":100,\"quantum\":101", b"range quantum 101"),
-        (b"\"latency\":50,\"quantum\":100", b"range quantum 100"),
-        (b"\"latency\":50", b"ok"),
-        (b"\"ways\":8,\"sets\":1024", b"range ways 8"),
-        (b"\"ways\":4,\"sets\":1024", b"ok"),
-        (b"\"event_limit\":0", b"range event_limit 0"),
-        (b"\"budget\":1099511627777", b"range budget 1099511627777"),
-        (b"\"budget\":1099511627776", b"ok"),
-        (b"\"costs\":{\"zz\":1,\"aa\":2}", b"unknown costs.aa"),
-        (b"\"costs\":[]", b"kind costs"),
-        (b"\"costs\":{\"op\":0}", b"range costs.op 0"),
-        (b"\"costs\":{\"trap_each\":\"5\"}", b"kind costs.trap_each"),
-        (
-            b"\"costs\":{\"fill\":0,\"trap\":4097}",
-            b"range costs.trap 4097",
-        ),
-        (b"\"op\":1", b"unknown op"),
-        (b"\"costs\":{\"costs.op\":1}", b"unknown costs.costs.op"),
-        // Each number whole before the next one, and the costs and the images last.
-        (b"\"ways\":\"x\",\"nodes\":33", b"range nodes 33"),
-        (b"\"ways\":9,\"blocks\":\"x\"", b"kind blocks"),
-        (b"\"ways\":9,\"budget\":\"x\"", b"range ways 9"),
-        (b"\"costs\":7,\"budget\":0", b"range budget 0"),
-        (b"\"costs\":{\"aa\":1},\"budget\":0", b"range budget 0"),
-        (b"\"costs\":{\"aa\":1,\"op\":0}", b"unknown costs.aa"),
-        (b"\"images\":7,\"costs\":{\"op\":0}", b"range costs.op 0"),
-        (b"\"images\":7", b"kind images"),
-        (b"\"images\":[]", b"range images 0"),
-        (b"\"images\":[7,7,7]", b"range images 3"),
-        (b"\"images\":[7]", b"kind images.0"),
-        (b"\"images\":[{}]", b"missing images.0.hex"),
-        (
-            b"\"images\":[{\"hex\":7,\"file\":7}]",
-            b"missing images.0.hex",
-        ),
-        (b"\"images\":[{\"z\":1,\"y\":1}]", b"unknown images.0.y"),
-        (
-            b"\"images\":[{\"hex\":7,\"format\":7}]",
-            b"kind images.0.hex",
-        ),
-        (
-            b"\"images\":[{\"file\":7,\"format\":7}]",
-            b"kind images.0.file",
-        ),
-        (
-            b"\"images\":[{\"hex\":\"\",\"format\":7}]",
-            b"unknown images.0.format",
-        ),
-        (
-            b"\"images\":[{\"file\":\"f\",\"format\":\"x\"}]",
-            b"kind images.0.format",
-        ),
-        (
-            b"\"images\":[{\"file\":\"f\",\"format\":1,\"at\":2}]",
-            b"kind images.0.format",
-        ),
-        (
-            b"\"images\":[{\"file\":\"f\",\"format\":\"flat\",\"at\":2}]",
-            b"range images.0.at 2",
-        ),
-        (
-            b"\"images\":[{\"file\":\"f\",\"format\":\"elf\",\"at\":\"\"}]",
-            b"kind images.0.at",
-        ),
-        (
-            b"\"images\":[{\"hex\":\"0\",\"at\":4294967296}]",
-            b"range images.0.at 4294967296",
-        ),
-        (b"\"images\":[{\"hex\":\"\",\"at\":4294967292}]", b"ok"),
-        (b"\"images\":[{\"hex\":\"0\"}]", b"hex images.0"),
-        (b"\"images\":[{\"hex\":\"0g\"}]", b"hex images.0"),
-        (b"\"images\":[{\"hex\":\"aB\"}]", b"ok"),
-        (
-            b"\"images\":[{\"hex\":\"\"},{\"hex\":\"0g\"}]",
-            b"hex images.1",
-        ),
-        (b"\"images\":[{\"hex\":\"0g\"},7]", b"hex images.0"),
-        (b"\"images\":[{\"hex\":\"\"},7]", b"kind images.1"),
-        (
-            b"\"nodes\":1,\"images\":[{\"hex\":\"\"},{\"hex\":\"\"}]",
-            b"range images 2",
-        ),
-    ];
-    for (members, wanted) in rows {
-        let mut text = b"{\"version\":1,\"nodes\":2,\"images\":[{\"hex\":\"\"}],".to_vec(alloc)?;
-        text.extend_from_slice(members)?;
-        text.push(b'}')?;
-        let told = answer(alloc, &text)?;
-        assert_eq!(rt;
-            told.as_bytes(),
-            wanted,
-            "{}",
-            text.as_slice().escape_ascii()
-        );
-    }
-    for length in 0..SHARED_LOAD.len() {
-        let cut = &SHARED_LOAD.as_bytes()[..length];
-        assert_eq!(rt; answer(alloc, cut)?.as_str(), "syntax");
-    }
+    assert!(rt; matches!(read_machine(alloc, b"\"\xff\""), Err(MachineFault::Syntax)));
     Ok(())
 }
 
+/// Two nodes, of which the second loads from shared memory.
+const SHARED_LOAD: &str =
+    r#"{"version":1,"nodes":2,"private_bytes":4096,"block_bytes":16,"blocks":4,
+"sets":2,"ways":1,"latency":100,"self_latency":10,
+"images":[{"hex":"9308D00573000000"},{"file":"b.elf","at":8}]}"#;
+
+const READ: &str =
+    "Description { machine: Machine { parts: MachineParts { nodes: 2, private_bytes: 4096, \
+block_bytes: 16, blocks: 4, sets: 2, ways: 1, latency: 100, self_latency: 10, quantum: 100, \
+event_limit: 4294967296, budget: 4294967296, costs: CostParts { op: 1, taken: 2, mem: 1, hit: 1, \
+cico: 1, call: 1, fill: 4, trap: 250, trap_each: 5 } } }, images: ImageSpecs { inner: [Bytes { at: 0, \
+bytes: ByteList { inner: [147, 8, 208, 5, 115, 0, 0, 0] } }, File { name: FileName { inner: \"b.elf\" }, \
+elf: true, at: 8 }] } }";
+
 #[test]
 fn a_description(rt: HostRuntime) -> Result<(), Fail> {
-    let Ok(description) = read_machine(rt.alloc(), SHARED_LOAD.as_bytes()) else {
-        return Err("refused".into());
-    };
-    let machine = description.machine;
-    assert_eq!(rt; machine.nodes(), 2);
-    assert_eq!(rt; machine.private_bytes(), 4096);
-    assert_eq!(rt; machine.sets(), 2);
-    assert_eq!(rt; machine.self_latency(), 10);
-    assert_eq!(rt; machine.quantum(), 100);
-    assert_eq!(rt; machine.budget(), 4_294_967_296);
-    assert_eq!(rt; machine.costs().trap, 250);
-    let images = description.images.get();
-    assert_eq!(rt; images.len(), 2);
-    let ImageSpec::Bytes { at: 0, bytes } = &images[0] else {
-        return Err("no bytes".into());
-    };
-    assert_eq!(rt; bytes.get(), [0x93, 8, 0xd0, 5, 0x73, 0, 0, 0].as_slice());
-    let ImageSpec::File {
-        name,
-        elf: true,
-        at: 8,
-    } = &images[1]
-    else {
-        return Err("no file".into());
-    };
-    assert_eq!(rt; name.get(), "b.elf");
+    let alloc = rt.alloc();
+    let description = read_machine(alloc, SHARED_LOAD.as_bytes())
+        .ok()
+        .ok_or("refused")?;
+    let told = format!(in alloc; "{description:?}")?;
+    assert!(rt; told.as_str() == READ, "{told}");
     Ok(())
 }

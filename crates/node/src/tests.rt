@@ -1,4 +1,4 @@
-ghost use Rattle.std.specs.Prelude.{◌≡◌, ◌<◌, true, IfOk, IfSome};
+ghost use Rattle.std.specs.Prelude.{◌≡◌, ◌<◌, true, IfOk};
 ghost use Rattle.image_loader.specs.Images.{IsFor};
 ghost use Rattle.discrete_events.specs.Simulation.{Step, Arrival};
 ghost use Rattle.discrete_events.specs.Laws.{IsAfter};
@@ -10,34 +10,16 @@ ghost use Rattle.node.specs.State.{next_key};
 
 use super::*;
 use crate::rows::{Act, CALL, Case, LOAD, Mail, READS, STRAYS, Says};
-use elf_image::read_flat;
-use image_loader::{Loaded, load};
+use image_loader::Loaded;
 use std::alloc::Global;
 use std::cmp::Ordering;
 use std::process::Abort;
 use std::test::Fail;
 use test_machines::small_parts;
+use test_programs::program;
 use wt_params::{Machine, NoMemory};
 use wt_proto::{Block, Body, Key, Mode, Msg, Stamped, StampedList};
 use wt_trace::Deed;
-
-/// An image of words for every node.
-fn loaded_of(alloc: Global, machine: &Machine, words: &[u32]) -> Result<Option<Loaded>, NoMemory>
-    ensures { IfOk result (λ loaded. IfSome loaded (IsFor machine.now)) }
-{
-    let mut bytes = Vec::new(alloc);
-    for word in words {
-        for byte in word.to_le_bytes() {
-            bytes.push(byte)?;
-        }
-    }
-    if bytes.len() > 4096 {
-        return Ok(None);
-    }
-    let mut images = Vec::new(alloc);
-    images.push(read_flat(alloc, bytes, 0)?)?;
-    Ok(load(machine, images).ok())
-}
 
 fn block_of(first: u32) -> Block {
     let mut block = Block::new(&[0; 16]);
@@ -241,7 +223,7 @@ fn played(
     let machine = Machine::new(small_parts(case.nodes))
         .ok()
         .ok_or("no machine")?;
-    let loaded = loaded_of(alloc, &machine, case.words)?.ok_or("no program")?;
+    let loaded = program(alloc, &machine, case.words)?.ok_or("no program")?;
     assert!(rt; (case.number as u64) < machine.nodes());
     let number = case.number;
     let mut node = start(alloc, &machine, number, &loaded, traced)?;

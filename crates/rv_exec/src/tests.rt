@@ -1,6 +1,6 @@
 use super::*;
-use rv_decode::{CicoOp, Instr, LoadOp, StoreOp};
-use rv_word::{AluOp, BranchOp};
+use rv_decode::{LoadOp, StoreOp, decode};
+use std::test::Fail;
 use wt_params::CostParts;
 
 const COSTS: CostParts = CostParts {
@@ -15,232 +15,47 @@ const COSTS: CostParts = CostParts {
     trap_each: 9,
 };
 
-/// x6 and x7 with these values, all others 0.
-fn operands(a: u32, b: u32) -> Regs {
-    let mut regs = Regs::new();
-    regs.set(6, a);
-    regs.set(7, b);
-    regs
-}
+/// Words as GNU as 2.40 assembles them for rv32i (the annotation by its directive .insn), and by the manual what x5 is
+/// after each, and the effect: at address 8, where x5 is 0x101, x6 is 0x80000010 and x7 is 4.
+const ROWS: &str = "407352b3 f8000001 Next { pc: 12, cost: 1 } sra x5, x6, x7
+40435293 f8000001 Next { pc: 12, cost: 1 } srai x5, x6, 4
+fff33293 1 Next { pc: 12, cost: 1 } sltiu x5, x6, -1
+00128013 101 Next { pc: 12, cost: 1 } addi x0, x5, 1
+800002b7 80000000 Next { pc: 12, cost: 1 } lui x5, 0x80000
+fffff297 fffff008 Next { pc: 12, cost: 1 } auipc x5, 0xfffff
+ffdff2ef c Next { pc: 4, cost: 2 } jal x5, -4
+006002ef 101 BadTarget { target: 14 } jal x5, 6
+004282e7 c Next { pc: 260, cost: 2 } jalr x5, 4(x5)
+005282e7 101 BadTarget { target: 262 } jalr x5, 5(x5)
+fe528ce3 101 Next { pc: 0, cost: 2 } beq x5, x5, -8
+00528363 101 BadTarget { target: 14 } beq x5, x5, 6
+00628363 101 Next { pc: 12, cost: 1 } beq x5, x6, 6
+80032283 101 Load { op: Lw, rd: 5, address: 2147481616 } lw x5, -2048(x6)
+00638423 101 Store { op: Sb, address: 12, value: 2147483664 } sb x6, 8(x7)
+0403200b 101 Cico { op: CheckIn, address: 2147483728 } check_in 64(x6)
+0ff0000f 101 Next { pc: 12, cost: 1 } fence
+00000073 101 Call ecall
+00100073 101 Break ebreak
+00000000 101 Illegal illegal";
 
 #[test]
-fn operations_by_the_manual(rt: HostRuntime) {
-    for (op, a, b, want) in [
-        (AluOp::Add, 0xffff_ffff, 2, 1),
-        (AluOp::Sub, 1, 2, 0xffff_ffff),
-        (AluOp::Sll, 0x8000_0001, 33, 2),
-        (AluOp::Slt, 0xffff_ffff, 1, 1),
-        (AluOp::Slt, 1, 0xffff_ffff, 0),
-        (AluOp::Sltu, 0xffff_ffff, 1, 0),
-        (AluOp::Sltu, 1, 0xffff_ffff, 1),
-        (AluOp::Xor, 0xff00_ff00, 0x0ff0_0ff0, 0xf0f0_f0f0),
-        (AluOp::Srl, 0x8000_0010, 36, 0x0800_0001),
-        (AluOp::Sra, 0x8000_0010, 4, 0xf800_0001),
-        (AluOp::Or, 0xff00_ff00, 0x0ff0_0ff0, 0xfff0_fff0),
-        (AluOp::And, 0xff00_ff00, 0x0ff0_0ff0, 0x0f00_0f00),
-    ] {
-        let mut regs = operands(a, b);
-        let instr = Instr::Op {
-            op,
-            rd: 5,
-            rs1: 6,
-            rs2: 7,
-        };
+fn each_instruction_by_the_manual(rt: HostRuntime) -> Result<(), Fail> {
+    let alloc = rt.alloc();
+    for row in ROWS.split('\n') {
+        let (word, wanted) = row.split_once(' ').ok_or("no answer in a row")?;
+        let instr = decode(u32::from_str_radix(word, 16)?);
+        let mut regs = Regs::new();
+        regs.set(5, 0x101);
+        regs.set(6, 0x8000_0010);
+        regs.set(7, 4);
         let effect = execute(&mut regs, 8, &instr, &COSTS);
-        assert_eq!(rt; effect, Effect::Next { pc: 12, cost: 1 }, "{op:?}");
-        assert_eq!(rt; regs.get(5), want, "{op:?} {a} {b}");
+        let x5 = regs.get(5);
+        let text = instr.text(alloc)?;
+        let told = format!(in alloc; "{x5:x} {effect:?} {text}")?;
+        assert!(rt; regs.get(0) == 0 && told.as_str() == wanted, "{row}");
     }
-}
-
-#[test]
-fn branches_by_the_manual(rt: HostRuntime) {
-    for (op, a, b, taken) in [
-        (BranchOp::Beq, 5, 5, true),
-        (BranchOp::Beq, 5, 6, false),
-        (BranchOp::Bne, 5, 6, true),
-        (BranchOp::Bne, 5, 5, false),
-        (BranchOp::Blt, 0xffff_ffff, 0, true),
-        (BranchOp::Blt, 0, 0xffff_ffff, false),
-        (BranchOp::Bge, 0, 0xffff_ffff, true),
-        (BranchOp::Bge, 0xffff_ffff, 0, false),
-        (BranchOp::Bltu, 0, 0xffff_ffff, true),
-        (BranchOp::Bltu, 0xffff_ffff, 0, false),
-        (BranchOp::Bgeu, 5, 5, true),
-        (BranchOp::Bgeu, 0, 0xffff_ffff, false),
-    ] {
-        let mut regs = operands(a, b);
-        let before = regs;
-        let back = Instr::Branch {
-            op,
-            rs1: 6,
-            rs2: 7,
-            imm: -16,
-        };
-        let astray = Instr::Branch {
-            op,
-            rs1: 6,
-            rs2: 7,
-            imm: 6,
-        };
-        let next = Effect::Next { pc: 0x44, cost: 1 };
-        let (want_back, want_astray) = if taken {
-            (
-                Effect::Next { pc: 0x30, cost: 2 },
-                Effect::BadTarget { target: 0x46 },
-            )
-        } else {
-            (next, next)
-        };
-        assert_eq!(rt;
-            execute(&mut regs, 0x40, &back, &COSTS),
-            want_back,
-            "{op:?} {a} {b}"
-        );
-        assert_eq!(rt;
-            execute(&mut regs, 0x40, &astray, &COSTS),
-            want_astray,
-            "{op:?} {a} {b}"
-        );
-        assert_eq!(rt; regs, before);
-    }
-}
-
-#[test]
-fn jumps_and_constants(rt: HostRuntime) {
-    let mut regs = Regs::new();
-    regs.set(5, 0x101);
-    let jalr = Instr::Jalr {
-        rd: 1,
-        rs1: 5,
-        imm: 3,
-    };
-    assert_eq!(rt;
-        execute(&mut regs, 8, &jalr, &COSTS),
-        Effect::Next { pc: 0x104, cost: 2 }
-    );
-    assert_eq!(rt; regs.get(1), 12);
-    regs.set(1, 77);
-    regs.set(5, 0x103);
-    assert_eq!(rt;
-        execute(&mut regs, 8, &jalr, &COSTS),
-        Effect::BadTarget { target: 0x106 }
-    );
-    assert_eq!(rt; regs.get(1), 77);
-    regs.set(5, 0x100);
-    let onto_itself = Instr::Jalr {
-        rd: 5,
-        rs1: 5,
-        imm: 0,
-    };
-    assert_eq!(rt;
-        execute(&mut regs, 8, &onto_itself, &COSTS),
-        Effect::Next { pc: 0x100, cost: 2 }
-    );
-    assert_eq!(rt; regs.get(5), 12);
-    let back = Instr::Jal { rd: 0, imm: -4 };
-    assert_eq!(rt;
-        execute(&mut regs, 8, &back, &COSTS),
-        Effect::Next { pc: 4, cost: 2 }
-    );
-    assert_eq!(rt; regs.get(0), 0);
-
-    let srai = Instr::OpImm {
-        op: AluOp::Sra,
-        rd: 5,
-        rs1: 10,
-        imm: 4,
-    };
-    regs.set(10, 0x8000_0010);
-    let _next = execute(&mut regs, 0, &srai, &COSTS);
-    assert_eq!(rt; regs.get(5), 0xf800_0001);
-    let sltiu = Instr::OpImm {
-        op: AluOp::Sltu,
-        rd: 5,
-        rs1: 6,
-        imm: -1,
-    };
-    regs.set(6, 5);
-    let _next = execute(&mut regs, 0, &sltiu, &COSTS);
-    assert_eq!(rt; regs.get(5), 1);
-    regs.set(6, 0xffff_ffff);
-    let _next = execute(&mut regs, 0, &sltiu, &COSTS);
-    assert_eq!(rt; regs.get(5), 0);
-    let lui = Instr::Lui {
-        rd: 5,
-        imm: 0x80000,
-    };
-    let _next = execute(&mut regs, 0, &lui, &COSTS);
-    assert_eq!(rt; regs.get(5), 0x8000_0000);
-    let auipc = Instr::Auipc {
-        rd: 5,
-        imm: 0xfffff,
-    };
-    let _next = execute(&mut regs, 0x2000, &auipc, &COSTS);
-    assert_eq!(rt; regs.get(5), 0x1000);
-}
-
-#[test]
-fn what_is_left_to_the_node(rt: HostRuntime) {
-    let mut regs = operands(2, 0x1234_5678);
-    let before = regs;
-    assert_eq!(rt;
-        execute(&mut regs, 8, &Instr::Illegal, &COSTS),
-        Effect::Illegal
-    );
-    assert_eq!(rt; execute(&mut regs, 8, &Instr::Ecall, &COSTS), Effect::Call);
-    assert_eq!(rt;
-        execute(&mut regs, 8, &Instr::Ebreak, &COSTS),
-        Effect::Break
-    );
-    let next = Effect::Next { pc: 12, cost: 1 };
-    assert_eq!(rt; execute(&mut regs, 8, &Instr::Fence, &COSTS), next);
-    let load = Instr::Load {
-        op: LoadOp::Lw,
-        rd: 10,
-        rs1: 6,
-        imm: -6,
-    };
-    let loads = Effect::Load {
-        op: LoadOp::Lw,
-        rd: 10,
-        address: 0xffff_fffc,
-    };
-    assert_eq!(rt; execute(&mut regs, 8, &load, &COSTS), loads);
-    let store = Instr::Store {
-        op: StoreOp::Sb,
-        rs1: 6,
-        rs2: 7,
-        imm: 8,
-    };
-    let stores = Effect::Store {
-        op: StoreOp::Sb,
-        address: 10,
-        value: 0x1234_5678,
-    };
-    assert_eq!(rt; execute(&mut regs, 8, &store, &COSTS), stores);
-    let annotation = Instr::Cico {
-        op: CicoOp::CheckIn,
-        rs1: 6,
-        imm: 64,
-    };
-    let annotates = Effect::Cico {
-        op: CicoOp::CheckIn,
-        address: 66,
-    };
-    assert_eq!(rt; execute(&mut regs, 8, &annotation, &COSTS), annotates);
-    assert_eq!(rt; regs, before);
-
-    for (op, width, raw, want) in [
-        (LoadOp::Lb, 1, 0x1280, 0xffff_ff80),
-        (LoadOp::Lh, 2, 0x0012_8000, 0xffff_8000),
-        (LoadOp::Lw, 4, 0x8000_0001, 0x8000_0001),
-        (LoadOp::Lbu, 1, 0x1280, 0x80),
-        (LoadOp::Lhu, 2, 0x0012_8000, 0x8000),
-    ] {
-        assert_eq!(rt; load_width(op), width);
-        assert_eq!(rt; widen(op, raw), want, "{op:?}");
-    }
-    for (op, width) in [(StoreOp::Sb, 1), (StoreOp::Sh, 2), (StoreOp::Sw, 4)] {
-        assert_eq!(rt; store_width(op), width);
-    }
+    assert!(rt; load_width(LoadOp::Lhu) == 2 && store_width(StoreOp::Sb) == 1);
+    assert!(rt; widen(LoadOp::Lh, 0x0012_8000) == 0xffff_8000);
+    assert!(rt; widen(LoadOp::Lbu, 0x1280) == 0x80);
+    Ok(())
 }

@@ -8,39 +8,10 @@ ghost use Rattle.start_memories.specs.Start.{homes_of};
 use super::*;
 use elf_image::{Bytes, Image, Segment, Segments};
 use image_loader::{Loaded, load};
-use std::alloc::{AllocError, Global};
+use std::alloc::Global;
 use std::test::Fail;
-use wt_params::{CostParts, Machine, MachineParts, NoMemory};
-
-/// A machine of two nodes with a page of private memory and four blocks of 16 bytes.
-fn machine_of() -> Option<Machine> {
-    let costs = CostParts {
-        op: 1,
-        taken: 2,
-        mem: 1,
-        hit: 1,
-        cico: 1,
-        call: 1,
-        fill: 4,
-        trap: 250,
-        trap_each: 5,
-    };
-    Machine::new(MachineParts {
-        nodes: 2,
-        private_bytes: 4096,
-        block_bytes: 16,
-        blocks: 4,
-        sets: 1,
-        ways: 1,
-        latency: 100,
-        self_latency: 10,
-        quantum: 100,
-        event_limit: 1000,
-        budget: 1000,
-        costs,
-    })
-    .ok()
-}
+use test_machines::two_nodes;
+use wt_params::{Machine, NoMemory};
 
 /// A segment: where it goes, four bytes of its own, and how many zeros come behind them.
 type Row = (u32, [u8; 4], u16);
@@ -70,23 +41,19 @@ fn image_of(alloc: Global, rows: &[Row]) -> Result<Image, NoMemory>
     })
 }
 
-/// An image for each of two nodes, or one for both.
+/// An image for each of two nodes.
 fn loaded_of(
     alloc: Global,
     machine: &Machine,
     first: &[Row],
-    second: Option<&[Row]>,
+    second: &[Row],
 ) -> Result<Option<Loaded>, NoMemory>
+    requires { machine.now.nodes ≡ 2 }
     ensures { IfOk result (λ loaded. IfSome loaded (IsFor machine.now)) }
 {
     let mut images = Vec::new(alloc);
     images.push(image_of(alloc, first)?)?;
-    if let Some(second) = second {
-        if machine.nodes() != 2 {
-            return Ok(None);
-        }
-        images.push(image_of(alloc, second)?)?;
-    }
+    images.push(image_of(alloc, second)?)?;
     Ok(load(machine, images).ok())
 }
 
@@ -126,75 +93,23 @@ fn memory_of(
     Ok(memory)
 }
 
-/// The first bytes of both nodes' private memories, and all four blocks.
-type Memories = ([[u8; 12]; 2], [[u8; 16]; 4]);
-
-fn memories_of(
-    alloc: Global,
-    first: &[Row],
-    second: Option<&[Row]>,
-) -> Result<Option<Memories>, NoMemory> {
-    let Some(machine) = machine_of() else {
-        return Ok(None);
-    };
-    let Some(loaded) = loaded_of(alloc, &machine, first, second)? else {
-        return Ok(None);
-    };
-    if machine.nodes() != 2 || machine.blocks() != 4 {
-        return Ok(None);
-    }
-    let private = [
-        private_front(alloc, &machine, &loaded, 0)?,
-        private_front(alloc, &machine, &loaded, 1)?,
-    ];
-    let shared = [
-        memory_of(alloc, &machine, &loaded, 0)?,
-        memory_of(alloc, &machine, &loaded, 1)?,
-        memory_of(alloc, &machine, &loaded, 2)?,
-        memory_of(alloc, &machine, &loaded, 3)?,
-    ];
-    Ok(Some((private, shared)))
-}
-
 #[test]
 fn later_bytes_win_in_every_memory(rt: HostRuntime) -> Result<(), Fail> {
-    let first: [Row; 4] = [
+    let alloc = rt.alloc();
+    let machine = two_nodes();
+    let first: [Row; 3] = [
         (1, [1, 2, 3, 4], 4),
         (3, [9, 8, 7, 6], 1),
-        (0, [10, 11, 12, 13], 1),
         (0x8000_000e, [5, 6, 7, 8], 0),
     ];
-    let second: [Row; 3] = [
-        (8, [1, 1, 2, 2], 0),
-        (0x8000_000c, [1, 2, 3, 4], 1),
-        (0x8000_003c, [6, 6, 6, 6], 0),
-    ];
-    let front = [10, 11, 12, 13, 0, 7, 6, 0, 0, 0, 0, 0];
-    let zeros = [0; 16];
-    assert_eq!(rt;
-        memories_of(rt.alloc(), &first, Some(&second))?,
-        Some((
-            [front, [0, 0, 0, 0, 0, 0, 0, 0, 1, 1, 2, 2]],
-            [
-                [0, 0, 0, 0, 0, 0, 0, 0, 0, 0, 0, 0, 1, 2, 3, 4],
-                [0, 8, 0, 0, 0, 0, 0, 0, 0, 0, 0, 0, 0, 0, 0, 0],
-                zeros,
-                [0, 0, 0, 0, 0, 0, 0, 0, 0, 0, 0, 0, 6, 6, 6, 6],
-            ]
-        ))
-    );
-    assert_eq!(rt;
-        memories_of(rt.alloc(), &first, None)?,
-        Some((
-            [front, front],
-            [
-                [0, 0, 0, 0, 0, 0, 0, 0, 0, 0, 0, 0, 0, 0, 5, 6],
-                [7, 8, 0, 0, 0, 0, 0, 0, 0, 0, 0, 0, 0, 0, 0, 0],
-                zeros,
-                zeros,
-            ]
-        ))
-    );
+    let second: [Row; 2] = [(8, [1, 1, 2, 2], 0), (0x8000_000c, [1, 2, 3, 4], 1)];
+    let loaded = loaded_of(alloc, &machine, &first, &second)?.ok_or("refused")?;
+    let private = private_front(alloc, &machine, &loaded, 0)?;
+    assert!(rt; private == [0, 1, 2, 9, 8, 7, 6, 0, 0, 0, 0, 0]);
+    let shared = memory_of(alloc, &machine, &loaded, 0)?;
+    assert!(rt; shared == [0, 0, 0, 0, 0, 0, 0, 0, 0, 0, 0, 0, 1, 2, 3, 4]);
+    let shared = memory_of(alloc, &machine, &loaded, 1)?;
+    assert!(rt; shared == [0, 8, 0, 0, 0, 0, 0, 0, 0, 0, 0, 0, 0, 0, 0, 0]);
     Ok(())
 }
 

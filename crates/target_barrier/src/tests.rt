@@ -43,10 +43,10 @@ fn assert_release(rt: &impl Abort, release: &Release, want: Want, node: u32) {
             };
             let mut i = 0u32;
             for wanted in list {
-                assert_eq!(rt; nodes.get(i), Some(*wanted), "at {node}");
+                assert!(rt; nodes.get(i) == Some(*wanted), "at {node}");
                 i = i.saturating_add(1);
             }
-            assert_eq!(rt; nodes.get(i), None, "at {node}");
+            assert!(rt; nodes.get(i) == None, "at {node}");
         }
     }
 }

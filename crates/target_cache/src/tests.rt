@@ -1,41 +1,25 @@
 ghost use Rattle.std.specs.Prelude.{◌≡◌, ◌+◌, ◌<◌, ◌≤◌, length};
+ghost use Rattle.test_machines.specs.Small.{small_machine};
 ghost use Rattle.target_cache.specs.Cached.{IsAccess};
 
 use super::*;
 use block_tags::Tag;
 use std::process::Abort;
 use std::test::Fail;
-use wt_params::{CostParts, Machine, MachineParts};
+use test_machines::{machine_with, small_parts};
+use wt_params::{Machine, MachineParts};
 use wt_proto::Block;
 
-/// A machine of one set of two ways, with eight blocks of 16 bytes.
-fn one_set() -> Option<Machine> {
-    let costs = CostParts {
-        op: 1,
-        taken: 2,
-        mem: 1,
-        hit: 1,
-        cico: 1,
-        call: 1,
-        fill: 4,
-        trap: 250,
-        trap_each: 5,
-    };
-    let parts = MachineParts {
-        nodes: 1,
-        private_bytes: 4096,
-        block_bytes: 16,
+/// A machine of one set of two ways, with eight blocks.
+fn one_set() -> Machine
+    ensures { result ≡ record (small_machine 1) { blocks = 8; sets = 1; ways = 2 } }
+{
+    machine_with(MachineParts {
         blocks: 8,
         sets: 1,
         ways: 2,
-        latency: 100,
-        self_latency: 10,
-        quantum: 100,
-        event_limit: 1000,
-        budget: 1000,
-        costs,
-    };
-    Machine::new(parts).ok()
+        ..small_parts(1)
+    })
 }
 
 /// A line whose bytes all are this one.
@@ -56,45 +40,31 @@ fn install(rt: &impl Abort, cache: &mut Cache, line: Line) -> Option<Line>
     requires size { length line.bytes ≡ cache.old.machine.block_bytes }
     ensures { cache.new.machine ≡ cache.old.machine }
 {
-    assert_eq!(rt; cache.tag(line.block), Tag::Invalid);
+    assert!(rt; cache.tag(line.block) == Tag::Invalid);
     cache.install(line)
 }
 
 #[test]
 fn a_set_of_two_ways(rt: HostRuntime) -> Result<(), Fail> {
-    let machine = one_set().ok_or("no machine")?;
-    assert_eq!(rt; (machine.blocks(), machine.block_bytes()), (8, 16));
+    let machine = one_set();
     let mut cache = Cache::new(rt.alloc(), &machine)?;
 
-    assert_eq!(rt; install(&rt, &mut cache, line(0, false, 0x10)), None);
-    assert_eq!(rt; install(&rt, &mut cache, line(1, true, 0x11)), None);
-    assert_eq!(rt;
-        (cache.tag(0), cache.tag(1), cache.tag(2)),
-        (Tag::ReadOnly, Tag::Writable, Tag::Invalid)
+    assert!(rt; install(&rt, &mut cache, line(0, false, 0x10)) == None);
+    assert!(rt; install(&rt, &mut cache, line(1, true, 0x11)) == None);
+    assert!(rt;
+        (cache.tag(0), cache.tag(1), cache.tag(2)) == (Tag::ReadOnly, Tag::Writable, Tag::Invalid)
     );
-    assert_eq!(rt; cache.read(0, 2, 2), Some(0x1010));
-    assert_eq!(rt;
-        install(&rt, &mut cache, line(2, true, 0x12)),
-        Some(line(0, false, 0x10))
-    );
-    assert_eq!(rt; cache.drop_block(1), Some(line(1, true, 0x11)));
-    assert_eq!(rt; cache.drop_block(1), None);
-    assert_eq!(rt; install(&rt, &mut cache, line(3, false, 0x13)), None);
-    assert_eq!(rt;
-        install(&rt, &mut cache, line(4, true, 0x14)),
-        Some(line(2, true, 0x12))
-    );
+    assert!(rt; cache.read(0, 2, 2) == Some(0x1010));
+    assert!(rt; install(&rt, &mut cache, line(2, true, 0x12)) == Some(line(0, false, 0x10)));
+    assert!(rt; cache.drop_block(1) == Some(line(1, true, 0x11)));
+    assert!(rt; cache.drop_block(1) == None);
+    assert!(rt; install(&rt, &mut cache, line(3, false, 0x13)) == None);
+    assert!(rt; install(&rt, &mut cache, line(4, true, 0x14)) == Some(line(2, true, 0x12)));
 
-    assert_eq!(rt; cache.write(3, 0, 4, 1), WriteHit::ReadOnly);
-    assert_eq!(rt; cache.write(2, 0, 4, 1), WriteHit::Absent);
-    assert_eq!(rt;
-        (cache.read(3, 0, 4), cache.read(2, 0, 4)),
-        (Some(0x1313_1313), None)
-    );
-    assert_eq!(rt; cache.write(4, 14, 2, 0xaabb_ccdd), WriteHit::Hit);
-    assert_eq!(rt;
-        (cache.read(4, 12, 4), cache.read(4, 15, 1)),
-        (Some(0xccdd_1414), Some(0xcc))
-    );
+    assert!(rt; cache.write(3, 0, 4, 1) == WriteHit::ReadOnly);
+    assert!(rt; cache.write(2, 0, 4, 1) == WriteHit::Absent);
+    assert!(rt; (cache.read(3, 0, 4), cache.read(2, 0, 4)) == (Some(0x1313_1313), None));
+    assert!(rt; cache.write(4, 14, 2, 0xaabb_ccdd) == WriteHit::Hit);
+    assert!(rt; (cache.read(4, 12, 4), cache.read(4, 15, 1)) == (Some(0xccdd_1414), Some(0xcc)));
     Ok(())
 }

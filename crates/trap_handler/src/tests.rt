@@ -15,15 +15,15 @@ fn traps_cost_and_invalidate(rt: HostRuntime) -> Result<(), Fail> {
         assert!(rt; busy < 1000);
         let plan = TrapPlan { block: 3, targets };
         let mut out = Sends::new(rt.alloc());
-        assert_eq!(rt; run_trap(&plan, 100, busy, &machine, &mut out)?, until);
+        assert!(rt; run_trap(&plan, 100, busy, &machine, &mut out)? == until);
         for to in wanted {
             let msg = Msg {
                 block: 3,
                 body: Body::Inv,
             };
-            assert_eq!(rt; out.pop_first(), Some(Outgoing { to: *to, msg }));
+            assert!(rt; out.pop_first() == Some(Outgoing { to: *to, msg }));
         }
-        assert_eq!(rt; out.pop_first(), None);
+        assert!(rt; out.pop_first() == None);
     }
     Ok(())
 }

@@ -1,24 +1,9 @@
-ghost use Rattle.std.specs.Prelude.{IfOk, IfSome};
-ghost use Rattle.image_loader.specs.Images.{IsFor};
-
 use super::*;
 use elf_image::read_flat;
-use image_loader::{Loaded, load};
-use std::alloc::Global;
 use std::test::Fail;
 use test_machines::one_node;
+use test_programs::program;
 use wt_outside::MemSink;
-use wt_params::{Machine, NoMemory};
-
-/// Two words for each node.
-fn loaded_of(alloc: Global, machine: &Machine) -> Result<Option<Loaded>, NoMemory>
-    ensures { IfOk result (λ loaded. IfSome loaded (IsFor machine.now)) }
-{
-    let words = Vec::from_slice(alloc, &WORDS)?;
-    let mut images = Vec::new(alloc);
-    images.push(read_flat(alloc, words, 0)?)?;
-    Ok(load(machine, images).ok())
-}
 
 /// The second instruction of a program, and its call.
 const WORDS: [u8; 8] = [0x93, 0x08, 0x10, 0, 0x73, 0, 0, 0];
@@ -27,7 +12,7 @@ const WORDS: [u8; 8] = [0x93, 0x08, 0x10, 0, 0x73, 0, 0, 0];
 fn a_machine_is_shown(rt: HostRuntime) -> Result<(), Fail> {
     let alloc = rt.alloc();
     let machine = one_node();
-    let loaded = loaded_of(alloc, &machine)?.ok_or("not loaded")?;
+    let loaded = program(alloc, &machine, &[])?.ok_or("not loaded")?;
     let mut sink = MemSink::new(alloc, 4096, Vec::new(alloc), 0)?;
     assert_eq!(rt; write_machine(alloc, &machine, &loaded, &mut sink), Ok(()));
     let begin = b"version 1\nnodes 1\nprivate_bytes 4096\n";

@@ -5,6 +5,3 @@
 mod latency;
 
 pub use latency::{lookahead, stamp};
-
-#[cfg(test)]
-mod tests;

@@ -26,16 +26,16 @@ fn lists_sets_blocks_and_keys(rt: HostRuntime) -> Result<(), Fail> {
         };
         sends.push(Outgoing { to, msg })?;
     }
-    assert_eq!(rt; sends.len(), 3);
-    assert_eq!(rt; sends.get(1).map(|item| item.to), Some(1));
+    assert!(rt; sends.len() == 3);
+    assert!(rt; sends.get(1).map(|item| item.to) == Some(1));
     assert!(rt; sends.get(3).is_none());
-    assert_eq!(rt; sends.pop_first().map(|item| item.to), Some(0));
-    assert_eq!(rt; sends.len(), 2);
+    assert!(rt; sends.pop_first().map(|item| item.to) == Some(0));
+    assert!(rt; sends.len() == 2);
 
     let mut list = StampedList::new(rt.alloc());
     list.push(message(5, 1, 0, 2))?;
-    assert_eq!(rt; list.pop_first(), Some(message(5, 1, 0, 2)));
-    assert_eq!(rt; list.pop_first(), None);
+    assert!(rt; list.pop_first() == Some(message(5, 1, 0, 2)));
+    assert!(rt; list.pop_first() == None);
 
     let mut set = NodeSet::new();
     for node in [9, 31, 0, 9] {
@@ -44,15 +44,12 @@ fn lists_sets_blocks_and_keys(rt: HostRuntime) -> Result<(), Fail> {
     }
     assert!(rt; set.contains(31) && !set.contains(8) && !set.contains(32));
     for (i, node) in [(0, Some(0)), (1, Some(9)), (2, Some(31)), (3, None)] {
-        assert_eq!(rt; set.get(i), node, "at {i}");
+        assert!(rt; set.get(i) == node, "at {i}");
     }
 
     let mut block = Block::new(&[7; 16]);
     block.overwrite(14, &[1, 2]);
-    assert_eq!(rt;
-        block.bytes(),
-        [7, 7, 7, 7, 7, 7, 7, 7, 7, 7, 7, 7, 7, 7, 1, 2].as_slice()
-    );
+    assert!(rt; block.bytes() == [7, 7, 7, 7, 7, 7, 7, 7, 7, 7, 7, 7, 7, 7, 1, 2].as_slice());
 
     // By time, then destination, then source, then sequence.
     for (a, b) in [
@@ -61,7 +58,7 @@ fn lists_sets_blocks_and_keys(rt: HostRuntime) -> Result<(), Fail> {
         (message(1, 1, 1, 9), message(1, 1, 2, 0)),
         (message(1, 1, 1, 1), message(1, 1, 1, 2)),
     ] {
-        assert_eq!(rt; a.key().cmp(&b.key()), Ordering::Less);
+        assert!(rt; a.key().cmp(&b.key()) == Ordering::Less);
         assert!(rt; b.key() > a.key());
     }
     Ok(())

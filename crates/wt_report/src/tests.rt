@@ -1,27 +1,17 @@
-ghost use Rattle.std.specs.Prelude.{◌≡◌, IfOk, IfSome};
+ghost use Rattle.std.specs.Prelude.{◌≡◌, IfOk};
 ghost use Rattle.image_loader.specs.Images.{IsFor};
 ghost use Rattle.wt_report.specs.Stations.{AreStationsOf};
 
 use super::*;
-use elf_image::read_flat;
-use image_loader::{Loaded, load};
+use image_loader::Loaded;
 use quantum::Station;
 use std::alloc::Global;
 use std::test::Fail;
 use test_machines::one_node;
+use test_programs::program;
 use wt_outside::MemSink;
 use wt_params::{Machine, NoMemory};
 use wt_stats::{Head, Outcome};
-
-/// A program of one environment call.
-fn loaded_of(alloc: Global, machine: &Machine) -> Result<Option<Loaded>, NoMemory>
-    ensures { IfOk result (λ loaded. IfSome loaded (IsFor machine.now)) }
-{
-    let word = Vec::from_slice(alloc, &[0x73, 0, 0, 0])?;
-    let mut images = Vec::new(alloc);
-    images.push(read_flat(alloc, word, 0)?)?;
-    Ok(load(machine, images).ok())
-}
 
 /// The only station of a machine, at the start.
 fn stations_of(alloc: Global, machine: &Machine, loaded: &Loaded) -> Result<Vec<Station>, NoMemory>
@@ -80,7 +70,8 @@ const ROWS: [Row; 5] = [
 fn each_option_has_its_report(rt: HostRuntime) -> Result<(), Fail> {
     let alloc = rt.alloc();
     let machine = one_node();
-    let loaded = loaded_of(alloc, &machine)?.ok_or("no program")?;
+    // A program of one environment call.
+    let loaded = program(alloc, &machine, &[0x73])?.ok_or("no program")?;
     let stations = stations_of(alloc, &machine, &loaded)?;
     let head = Head {
         outcome: Outcome::Stalled,

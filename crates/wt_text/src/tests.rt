@@ -15,6 +15,6 @@ fn a_line_of_each_part(rt: HostRuntime) -> Result<(), Fail> {
     line.end()?;
     let wanted =
         b"count 340282366920938463463374607431768211455 at 0 steps 12 pc 0x800000af 0000000a 001ff0\n";
-    assert_eq!(rt; line.as_bytes(), wanted.as_slice());
+    assert!(rt; line.as_bytes() == wanted.as_slice());
     Ok(())
 }

@@ -112,10 +112,10 @@ load -- 7 => load 7 1";
 fn words_are_read_as_told(rt: HostRuntime) -> Result<(), Fail> {
     for row in ROWS.split('\n') {
         let (line, wanted) = row.split_once(" => ").ok_or("no answer in a row")?;
-        assert_eq!(rt; told(&rt, line)?.as_str(), wanted, "{line}");
+        assert!(rt; told(&rt, line)?.as_str() == wanted, "{row}");
     }
     assert!(rt; matches!(read_words(rt.alloc(), &[]), Err(WordFault::Usage)));
     let word = Word::new(String::from_str(rt.alloc(), "m.json")?);
-    assert_eq!(rt; word.into_inner().as_str(), "m.json");
+    assert!(rt; word.into_inner().as_str() == "m.json");
     Ok(())
 }

@@ -10,8 +10,8 @@ use Rattle.node.specs.declared.state.NodeState.{NodeState}
 use Rattle.node.specs.Laws.{NodeModel}
 use Rattle.quantum.proofs.tests.hears.Goals as goal
 
-pub accept-requires : goal.accept-requires
-accept-requires g c =
+pub heard-requires-clause-message : goal.heard-requires-clause-message
+heard-requires-clause-message g c =
     let start = c.in_ok-station.ensures.start in
     let number = ap (λ (n : NodeModel). n.state.number) (sym c.node.ensures.value) ∙ sym c.number.ensures ∙ c.if-number-ne0.false in
     let until = ap (λ (s : Station NodeState Msg). s.until) start in

@@ -1,4 +1,4 @@
-use Rattle.quantum.proofs.tests.messages_of_another_node.Given as goal
+use Rattle.quantum.proofs.tests.a_message_of_another_node.Given as goal
 
 -- a ledger of one part, as the blank has
 abbrev pub ghosts-hears : goal.ghosts-hears

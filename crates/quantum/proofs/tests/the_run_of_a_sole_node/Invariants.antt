@@ -1,4 +1,4 @@
-use Rattle.quantum.proofs.tests.runs_of_a_sole_node.Given as goal
+use Rattle.quantum.proofs.tests.the_run_of_a_sole_node.Given as goal
 
 -- a ledger of one part, as the blank has
 abbrev pub ghosts-ends : goal.ghosts-ends
