@@ -9,7 +9,7 @@ use Rattle.discrete_events.specs.Simulation.{Simulation, Event, Message}
 use Rattle.discrete_events.specs.World.{World, events_in, events_below, least}
 use Rattle.discrete_events.specs.Serial.{placed, serial, final}
 use Rattle.discrete_events.specs.Round.{FreeRun, local, to_node, together, round, quantum_end}
-use Rattle.discrete_events.specs.Core.{Station, run_to, Core, world_of_core, opening, core_of, IsAtRest, CoreStep, Quantum, Deposit, Turn, IsEnabled, part_to, is_at, after_quantum, after_deposit, with_inbox, after_turn, within_quantum, while_open, core_step, core_run, AreEnabled}
+use Rattle.discrete_events.specs.Core.{Station, run_to, Core, world_of_core, opening, core_of, IsAtRest, CoreStep, Quantum, Deposit, Turn, IsEnabled, part_from, part_to, is_at, after_quantum, after_deposit, with_inbox, after_turn, within_quantum, while_open, core_step, core_run, AreEnabled}
 use Rattle.discrete_events.specs.Laws.{IsIn, IsAfter, IsSimulation, IsStation, IsNumbered, IsWorld, IsConservative, IsBetweenQuanta, IsSerialFrom}
 use Rattle.discrete_events.specs.Theorems.{picked, IsAmidQuantum, IsAmid, EveryInterleaving, IsResting, StandsFor, IsSerialRound}
 use Rattle.discrete_events.proofs.Lists.{or_else, in_append, in_right, from_map, from_filter, from_flat_map, map_alike, flat_map_alike, map_map, flat_map_map}
@@ -23,10 +23,6 @@ use Rattle.discrete_events.proofs.Events.{least_in, least_upto, event_is, counts
 use Rattle.discrete_events.proofs.Peel.{after_less, own_in_world, tested, to_node_is, get_exchanged, narrowed}
 use Rattle.discrete_events.proofs.RoundIsSerial.{queues_together}
 use Rattle.discrete_events.proofs.Whole.{round_is_serial, serial_run_ends, from_world, joined, nothing_done}
-
--- the messages of a source among some
-abbrev part_from : {X : Type 0} → ℕ → List (Message X) → List (Message X)
-part_from number messages = filter (λ message. message.0.from == number) messages
 
 filter_append : {A : Type 0} (p : A → Bool) (xs ys : List A) → filter p (xs ++ ys) ≡ filter p xs ++ filter p ys
 filter_append p [] ys = refl
@@ -99,6 +95,7 @@ module _ {S X : Type 0} (sim : Simulation S X) (IsSound : S → Type 0) (Fits : 
     number = λ station. sim.number station.node;
     handled = λ station. sim.handled station.node;
     last = λ station. sim.last station.node;
+    sent = λ station. sim.sent station.node;
     next = λ station. sim.next station.node;
     react = λ station event. (station, []);
   }

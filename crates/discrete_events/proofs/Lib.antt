@@ -1,11 +1,13 @@
 pub mod Lists
 pub mod Keys
 pub mod Queues
+pub mod Sequences
 pub mod Events
 pub mod Stations
 pub mod FreeRuns
 pub mod Numbered
 pub mod Peel
+pub mod NewKeys
 pub mod SerialRun
 pub mod RoundIsSerial
 pub mod Whole

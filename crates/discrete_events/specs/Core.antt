@@ -82,6 +82,10 @@ IsEnabled sim core Turn =
     IsOpen core × ((node : ℕ) → node < sim.nodes → core.done node ≡ true)
     × ((from to : ℕ) → from < sim.nodes → to < sim.nodes → core.out from to ≡ [])
 
+-- the messages of a source among some
+abbrev pub part_from : {X : Type 0} → ℕ → List (Message X) → List (Message X)
+part_from number messages = filter (λ message. message.0.from == number) messages
+
 -- the messages to a node among some
 abbrev pub part_to : {X : Type 0} → ℕ → List (Message X) → List (Message X)
 part_to number messages = filter (λ message. message.0.to == number) messages

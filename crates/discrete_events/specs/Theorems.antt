@@ -1,15 +1,21 @@
 -- What is proved of every simulation that keeps the laws. Own.
-use Rattle.std.specs.Prelude.{◌≡◌, ◌≢◌, ℕ, ◌+◌, ◌≤◌, ◌<◌, Bool, List, [], ◌∷◌, map, Some, None, if◌then◌else◌}
+use Rattle.std.specs.Prelude.{◌≡◌, ◌≢◌, ℕ, ◌+◌, ◌≤◌, ◌<◌, Bool, List, [], ◌∷◌, map, flat_map, Some, None, if◌then◌else◌}
 use Rattle.std.specs.declared.cmp.Ordering.TheVariants.{Less}
 use Rattle.std.specs.FinMap.{FinMap, get, insert}
 use Rattle.wt_proto.specs.declared.key.Key.{Key}
 use Rattle.wt_proto.specs.KeyOrder.{key_cmp}
 use Rattle.discrete_events.specs.Simulation.{Simulation, Event, Message}
-use Rattle.discrete_events.specs.World.{World, events_in, least}
-use Rattle.discrete_events.specs.Serial.{serial_step, serial, final}
-use Rattle.discrete_events.specs.Round.{FreeRun, local, round, quantum_end, rounds}
+use Rattle.discrete_events.specs.World.{World, events_below, events_in, least}
+use Rattle.discrete_events.specs.Serial.{taken, sent_by, serial_step, serial, final}
+use Rattle.discrete_events.specs.Round.{FreeRun, to_itself, local, runs_to, together, round, quantum_end, rounds}
 use Rattle.discrete_events.specs.Core.{Station, Core, CoreStep, IsAtRest, world_of_core, opening, core_of, core_run, AreEnabled}
 use Rattle.discrete_events.specs.Laws.{IsIn, IsAfter, IsNumbered, IsStation, IsStart, IsWorld, IsConservative, IsBetweenQuanta, IsSerialFrom}
+
+-- messages that are placed one after the other, each under a key that isn't pending then
+abbrev pub AreNew : {X : Type 0} → FinMap key_cmp X → List (Message X) → Type 0
+AreNew pending [] = Unit {0}
+AreNew pending (message ∷ messages) =
+    (get pending message.0 ≡ None) × AreNew (insert pending message.0 message.1) messages
 
 -- a run with one more message left pending
 abbrev pub with_pending : {S X : Type 0} → Message X → FreeRun S X → FreeRun S X
@@ -83,6 +89,19 @@ abbrev pub NoPastOfRun : {S X : Type 0} → Simulation S X → (S → Type 0) �
 NoPastOfRun {S} {X} sim IsSound Fits =
     (until : ℕ) (node : S) (pending : FinMap key_cmp X) → until ≤ sim.budget → IsStation sim IsSound Fits node pending →
     IsStation sim IsSound Fits (local sim until node pending).node (local sim until node pending).pending
+
+-- Each source numbers its sends, so no message is placed under the key of one that is pending: neither what an event
+-- of the serial run sends, nor what a node sends to itself in its own run, nor what the nodes exchange in a round.
+pub record KeysAreNew {S X : Type 0} (sim : Simulation S X) (IsSound : S → Type 0) (Fits : Message X → Type 0) : Type 0 where
+  pub events : (world : World S X) (key : Key) (event : Event X) → IsWorld sim IsSound Fits world → least (events_in sim world) ≡ Some (key, event) →
+      AreNew (taken event world.pending) (flat_map (sent_by sim key event) world.nodes)
+  pub runs : (until : ℕ) (node : S) (pending : FinMap key_cmp X) (key : Key) (event : Event X) →
+      until ≤ sim.budget → IsStation sim IsSound Fits node pending →
+      least (events_below sim until (node ∷ []) pending) ≡ Some (key, event) →
+      AreNew (taken event pending) (to_itself sim node (sim.react node event).1)
+  pub rounds : (until : ℕ) (world : World S X) → until ≤ sim.budget → IsWorld sim IsSound Fits world →
+      AreNew (together (map (λ run. run.pending) (runs_to sim until world.nodes world.pending)))
+      (flat_map (λ run. run.outs) (runs_to sim until world.nodes world.pending))
 
 -- The keys of the events handled rise strictly along the serial run.
 abbrev pub KeysRise : {S X : Type 0} → Simulation S X → (S → Type 0) → (Message X → Type 0) → Type 0

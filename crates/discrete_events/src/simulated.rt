@@ -1,6 +1,6 @@
 ghost use Rattle.discrete_events.specs.Simulation.{Simulation, Message};
 ghost use Rattle.discrete_events.specs.Laws.{IsSimulation};
-ghost use Rattle.discrete_events.specs.Theorems.{LateMessagePasses, LeastEventPeels, RoundIsSerial, RoundsAreSerial, SerialRunEnds, NoPast, NoPastOfRun, KeysRise, StartIsWorld, EveryInterleaving, StandsFor};
+ghost use Rattle.discrete_events.specs.Theorems.{LateMessagePasses, LeastEventPeels, RoundIsSerial, RoundsAreSerial, SerialRunEnds, NoPast, NoPastOfRun, KeysAreNew, KeysRise, StartIsWorld, EveryInterleaving, StandsFor};
 
 /// A simulation whose node states are the values of a type, and that keeps the laws.
 pub trait Simulated {
@@ -44,6 +44,11 @@ pub fn no_past<T: Simulated>()
     ensures worlds { NoPast T.simulation T.is_sound T.fits }
     ensures runs { NoPastOfRun T.simulation T.is_sound T.fits }
     ensures start { StartIsWorld T.simulation T.is_sound T.fits }
+{}
+
+/// No message is placed under the key of one that is pending.
+pub fn keys_are_new<T: Simulated>()
+    ensures { KeysAreNew T.simulation T.is_sound T.fits }
 {}
 
 /// The keys of the events handled rise along the serial run.

@@ -36,6 +36,7 @@ accepted message station is may = record {
     fitting = λ key msg there. fitting key msg (known key msg there);
     no_past = λ key msg there to. after key msg to (known key msg there);
     step = is.sound.step;
+    numbered = λ key msg there from. numbered key msg from (known key msg there);
   };
   own = λ key msg there. own key msg (known key msg there);
   numbered = λ key msg there from. numbered key msg from (known key msg there);
@@ -79,6 +80,7 @@ started machine loaded traced number site state sound whole queue = record {
     fitting = λ key msg waits. absurd (none key msg waits);
     no_past = λ key msg waits to. absurd (none key msg waits);
     step = λ time next. subst (λ (last : Option Key). IsAfter last (step_key (wind_tunnel site.node.machine) site.node.state time)) (sym unused) tt;
+    numbered = λ key msg waits from. absurd (none key msg waits);
   };
   own = λ key msg waits. absurd (none key msg waits);
   numbered = λ key msg waits from. absurd (none key msg waits);
