@@ -13,4 +13,6 @@ pub mod RoundIsSerial
 pub mod Whole
 pub mod OnLists
 pub mod Computed
+pub mod Inside
+pub mod Held
 pub mod Interleaving

@@ -10,7 +10,7 @@ use Rattle.discrete_events.specs.Simulation.{Message}
 use Rattle.discrete_events.specs.Core.{part_from}
 use Rattle.discrete_events.specs.Laws.{IsIn, AreInSequence}
 use Rattle.discrete_events.specs.Theorems.{AreNew}
-use Rattle.discrete_events.proofs.Lists.{in_append, in_filter}
+use Rattle.discrete_events.proofs.Lists.{in_left, in_append, in_filter, from_filter}
 use Rattle.discrete_events.proofs.Keys.{isnt_key}
 use Rattle.discrete_events.proofs.Queues.{Queue}
 
@@ -79,6 +79,18 @@ module _ {X : Type 0} where
       either : (n : Message X) → IsIn n xs ⊎ IsIn n ys → n.0 ≢ x.0
       either n (inl h) = one.0 n h
       either n (inr h) = across x n (inl refl) h
+
+  pub apart_left : (xs ys : List (Message X)) → AreApart (xs ++ ys) → AreApart xs
+  apart_left [] ys apart = tt
+  apart_left (x ∷ xs) ys apart = (λ n is. apart.0 n (in_left n xs ys is), apart_left xs ys apart.1)
+
+  pub apart_filter : (p : Message X → Bool) (ms : List (Message X)) → AreApart ms → AreApart (filter p ms)
+  apart_filter p [] apart = tt
+  apart_filter p (m ∷ ms) apart = by (p m) (apart_filter p ms apart.1)
+    where
+      by : (b : Bool) → AreApart (filter p ms) → AreApart (cond b (m ∷ filter p ms) (filter p ms))
+      by true rest = (λ n is. apart.0 n (from_filter p n ms is).0, rest)
+      by false rest = rest
 
   -- the parts of all sources, and so the whole
   pub apart_by_source : (ms : List (Message X)) → ((from : ℕ) → AreApart (part_from from ms)) → AreApart ms

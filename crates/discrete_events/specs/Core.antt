@@ -90,6 +90,15 @@ part_from number messages = filter (λ message. message.0.from == number) messag
 abbrev pub part_to : {X : Type 0} → ℕ → List (Message X) → List (Message X)
 part_to number messages = filter (λ message. message.0.to == number) messages
 
+-- what a node of a world sends to others in a quantum
+abbrev pub quantum_outs : {S X : Type 0} → Simulation S X → ℕ → World S X → S → List (Message X)
+quantum_outs sim until world node = (local sim until node (to_node world.pending (sim.number node))).outs
+
+-- and to one of them, by their numbers
+abbrev pub sent_to : {S X : Type 0} → Simulation S X → ℕ → World S X → ℕ → ℕ → List (Message X)
+sent_to sim until world from to =
+    part_to to (flat_map (λ node. if sim.number node == from then quantum_outs sim until world node else []) world.nodes)
+
 abbrev pub is_at : {S X : Type 0} → Simulation S X → ℕ → Station S X → Bool
 is_at sim number station = sim.number station.node == number
 
