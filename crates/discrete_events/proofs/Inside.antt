@@ -57,7 +57,7 @@ filter_none : {A : Type 0} (p : A → Bool) (xs : List A) → ((x : A) → IsIn 
 filter_none p [] none = refl
 filter_none p (x ∷ xs) none = ap (λ (b : Bool). cond b (x ∷ filter p xs) (filter p xs)) (none x (inl refl)) ∙ filter_none p xs (λ y h. none y (inr h))
 
-and_false : (b : Bool) → (b && false) ≡ false
+pub and_false : (b : Bool) → (b && false) ≡ false
 and_false true = refl
 and_false false = refl
 

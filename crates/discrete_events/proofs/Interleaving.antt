@@ -32,14 +32,14 @@ same_some e = cc
 module _ {S X : Type 0} (sim : Simulation S X) (IsSound : S → Type 0) (Fits : Message X → Type 0) (laws : IsSimulation sim IsSound Fits) where
   -- ---- the states of a core, whatever its steps
 
-  below_budget : (time : ℕ) → quantum_end sim time ≤ sim.budget
+  pub below_budget : (time : ℕ) → quantum_end sim time ≤ sim.budget
   below_budget time = omega arith
 
-  record Opened (world : World S X) (ok : IsWorld sim IsSound Fits world) (core : Core S X) : Type 0 where
-    key : Key
-    event : Event X
-    is_least : least (events_in sim world) ≡ Some (key, event)
-    inside : IsInside sim IsSound Fits laws world ok (quantum_end sim key.time) (below_budget key.time) core
+  pub record Opened (world : World S X) (ok : IsWorld sim IsSound Fits world) (core : Core S X) : Type 0 where
+    pub key : Key
+    pub event : Event X
+    pub is_least : least (events_in sim world) ≡ Some (key, event)
+    pub inside : IsInside sim IsSound Fits laws world ok (quantum_end sim key.time) (below_budget key.time) core
 
   record State (start : World S X) (core : Core S X) : Type 0 where
     begun : World S X
@@ -201,7 +201,7 @@ module _ {S X : Type 0} (sim : Simulation S X) (IsSound : S → Type 0) (Fits : 
         new = λ s member number. sent_new sim IsSound Fits laws begun ok until (below_budget opened.key.time) core inside from m h.0 s member;
       }
 
-      amid : IsAmidQuantum sim Fits begun until core
+      pub amid : IsAmidQuantum sim Fits begun until core
       amid = record {
         ended = round sim until begun;
         serial = r.serial;

@@ -16,3 +16,4 @@ pub mod Computed
 pub mod Inside
 pub mod Held
 pub mod Interleaving
+pub mod Merged

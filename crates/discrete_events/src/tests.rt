@@ -38,4 +38,5 @@ fn theorems_hold_of_the_couriers() {
     keys_rise::<Courier>();
     keys_are_new::<Courier>();
     every_interleaving::<Courier>();
+    merges_are_rounds::<Courier>();
 }
