@@ -1,20 +1,19 @@
 -- What a core holds inside a quantum: each message in an inbox or an out is one that its source sent, and new at its node.
-use Rattle.std.proofs.Common.{◌≡◌, ◌≢◌, ℕ, ◌≤◌, ◌⊎◌, List, [], ◌∷◌, ◌++◌, Bool, true, false, cond, Some, None, refl, ap, sym, ◌∙◌, subst, inl, inr, ◌==◌, arith, eqb-true, eq-eqb}
-use Rattle.std.specs.Prelude.{flat_map, if◌then◌else◌}
+use Rattle.std.proofs.Common.{◌≡◌, ◌≢◌, ℕ, ◌≤◌, List, [], Bool, true, false, cond, Some, None, refl, ap, sym, ◌∙◌, subst, ◌==◌, arith, eqb-true, eq-eqb}
+use Rattle.std.specs.Prelude.{if◌then◌else◌}
 use Rattle.std.specs.FinMap.{get}
-use Rattle.wt_proto.specs.declared.key.Key.{Key}
 use Rattle.discrete_events.specs.Simulation.{Simulation, Message}
 use Rattle.discrete_events.specs.World.{World}
 use Rattle.discrete_events.specs.Round.{FreeRun, to_node}
-use Rattle.discrete_events.specs.Core.{Station, Core, part_from, part_to}
+use Rattle.discrete_events.specs.Core.{Station, Core, station_in, part_from, part_to}
 use Rattle.discrete_events.specs.Laws.{IsIn, IsSimulation, IsWorld}
 use Rattle.discrete_events.specs.Theorems.{AreNew}
 use Rattle.discrete_events.proofs.Lists.{in_left, in_filter, from_map, from_filter}
-use Rattle.discrete_events.proofs.Queues.{Queue, Pends, pends_not}
+use Rattle.discrete_events.proofs.Queues.{Pends, pends_not}
 use Rattle.discrete_events.proofs.Sequences.{AreApart, rise_apart, apart_left, apart_filter, apart_by_source, new_of_apart}
 use Rattle.discrete_events.proofs.Peel.{to_node_is}
 use Rattle.discrete_events.proofs.NewKeys.{apart_flat, sent_rise, not_before, not_after}
-use Rattle.discrete_events.proofs.Inside.{IsInside, fresh, run, run_is, station, outs, in_outs, outs_source, outs_fit, out_is}
+use Rattle.discrete_events.proofs.Inside.{IsInside, run, run_is, station, outs, in_outs, outs_fit}
 
 module _ {S X : Type 0} (sim : Simulation S X) (IsSound : S → Type 0) (Fits : Message X → Type 0) (laws : IsSimulation sim IsSound Fits) (world : World S X) (ok : IsWorld sim IsSound Fits world) (until : ℕ) (within : until ≤ sim.budget) where
   abbrev run_there : S → FreeRun S X
@@ -74,7 +73,7 @@ module _ {S X : Type 0} (sim : Simulation S X) (IsSound : S → Type 0) (Fits : 
           of : (node : S) × IsIn node world.nodes × (s ≡ station_there core.done node) → get s.pending m.0 ≡ None
           of (node, h, e) = ap (λ (t : Station S X). get t.pending m.0) e ∙ by (core.done (sim.number node))
             where
-              by : (b : Bool) → get (cond b (record { node = (run_there node).node; pending = (run_there node).pending; until = until }) (fresh sim IsSound Fits laws world node)).pending m.0 ≡ None
+              by : (b : Bool) → get (cond b (record { node = (run_there node).node; pending = (run_there node).pending; until = until }) (station_in sim world node)).pending m.0 ≡ None
               by true = not_after sim IsSound Fits laws world ok until within whose.0 node whose.1 h m whose.3
               by false = pends_not (to_node world.pending (sim.number node)) m.0 no
                 where
@@ -94,6 +93,6 @@ module _ {S X : Type 0} (sim : Simulation S X) (IsSound : S → Type 0) (Fits : 
         of : (node : S) × IsIn node world.nodes × (s ≡ station_there core.done node) → s.until ≤ until
         of (node, h, e) = subst (λ (t : Station S X). t.until ≤ until) (sym e) (by (core.done (sim.number node)))
           where
-            by : (b : Bool) → (cond b (record { node = (run_there node).node; pending = (run_there node).pending; until = until }) (fresh sim IsSound Fits laws world node)).until ≤ until
+            by : (b : Bool) → (cond b (record { node = (run_there node).node; pending = (run_there node).pending; until = until }) (station_in sim world node)).until ≤ until
             by true = omega arith
             by false = no_later

@@ -2,27 +2,22 @@
 use Rattle.std.proofs.Common.{◌≡◌, ◌≢◌, ℕ, suc, ◌+◌, ◌-◌, ◌<◌, ◌≤◌, ◌⊎◌, List, [], ◌∷◌, ◌++◌, map, take, drop, Bool, true, false, cond, Option, Some, None, refl, ap, sym, ◌∙◌, subst, inl, inr, ◌==◌, arith, eqb-true, eq-eqb, append-nil, append_assoc}
 use Rattle.std.specs.Prelude.{flat_map, ◌&&◌, ◌||◌, if◌then◌else◌}
 use Rattle.std.specs.List.{filter}
-use Rattle.std.specs.Option.{option_map}
 use Rattle.std.specs.FinMap.{get}
 use Rattle.wt_proto.specs.declared.key.Key.{Key}
-use Rattle.discrete_events.specs.Simulation.{Simulation, Event, Message}
-use Rattle.discrete_events.specs.World.{World, events_in, events_below, least}
-use Rattle.discrete_events.specs.Serial.{placed, serial, final}
-use Rattle.discrete_events.specs.Round.{FreeRun, local, to_node, together, round, quantum_end}
-use Rattle.discrete_events.specs.Core.{Station, run_to, Core, world_of_core, opening, core_of, IsAtRest, CoreStep, Quantum, Deposit, Turn, IsEnabled, part_from, part_to, is_at, after_quantum, after_deposit, with_inbox, after_turn, within_quantum, while_open, core_step, core_run, AreEnabled}
-use Rattle.discrete_events.specs.Laws.{IsIn, IsAfter, IsSimulation, IsStation, IsNumbered, IsWorld, IsConservative, IsBetweenQuanta, IsSerialFrom}
-use Rattle.discrete_events.specs.Theorems.{picked, IsAmidQuantum, IsAmid, EveryInterleaving, IsResting, StandsFor, IsSerialRound}
-use Rattle.discrete_events.proofs.Lists.{or_else, in_append, in_right, from_map, from_filter, from_flat_map, map_alike, flat_map_alike, map_map, flat_map_map}
+use Rattle.discrete_events.specs.Simulation.{Simulation, Message}
+use Rattle.discrete_events.specs.World.{World}
+use Rattle.discrete_events.specs.Serial.{placed}
+use Rattle.discrete_events.specs.Round.{FreeRun, local, to_node, together, round}
+use Rattle.discrete_events.specs.Core.{Station, run_to, Core, world_of_core, opening, station_in, core_of, part_from, part_to, is_at, after_quantum, after_deposit, with_inbox, after_turn}
+use Rattle.discrete_events.specs.Laws.{IsIn, IsSimulation, IsNumbered, IsWorld}
+use Rattle.discrete_events.specs.Theorems.{IsResting, StandsFor}
+use Rattle.discrete_events.proofs.Lists.{or_else, in_append, in_right, from_filter, from_flat_map, map_alike, flat_map_alike, map_map, flat_map_map}
 use Rattle.discrete_events.proofs.Queues.{Queue, same_queue, get_placed, get_to_node, get_together, last_of, last_of_filter, last_where}
 use Rattle.discrete_events.proofs.Stations.{lt_or_le}
-use Rattle.discrete_events.proofs.FreeRuns.{IsRunOf, run_of, outs_fit as run_outs_fit, outs_late, last_below}
+use Rattle.discrete_events.proofs.FreeRuns.{IsRunOf, run_of, outs_fit as run_outs_fit}
 use Rattle.discrete_events.proofs.Numbered.{numbered_below, single_first, last_alike}
-use Rattle.discrete_events.specs.KeyTimes.{earlier_less}
-use Rattle.discrete_events.proofs.Keys.{upto_time}
-use Rattle.discrete_events.proofs.Events.{least_in, least_upto, event_is, counts_time, IsEventBelow}
-use Rattle.discrete_events.proofs.Peel.{after_less, own_in_world, tested, to_node_is, get_exchanged, narrowed}
+use Rattle.discrete_events.proofs.Peel.{tested, to_node_is, get_exchanged, narrowed}
 use Rattle.discrete_events.proofs.RoundIsSerial.{queues_together}
-use Rattle.discrete_events.proofs.Whole.{round_is_serial, serial_run_ends, from_world, joined, nothing_done}
 
 filter_append : {A : Type 0} (p : A → Bool) (xs ys : List A) → filter p (xs ++ ys) ≡ filter p xs ++ filter p ys
 filter_append p [] ys = refl
@@ -64,13 +59,10 @@ and_false false = refl
 module _ {S X : Type 0} (sim : Simulation S X) (IsSound : S → Type 0) (Fits : Message X → Type 0) (laws : IsSimulation sim IsSound Fits) where
   -- ---- the core of a world stands for it
 
-  abbrev pub fresh : World S X → S → Station S X
-  fresh world node = record { node = node; pending = to_node world.pending (sim.number node); until = world.kept_end }
-
   core_stands_for : (world : World S X) → IsWorld sim IsSound Fits world → world_of_core (core_of sim world) ≡ world
   core_stands_for world ok = λ i. record {
-    nodes = (map_map (λ (s : Station S X). s.node) (fresh world) world.nodes ∙ map_same world.nodes) i;
-    pending = (ap together (map_map (λ (s : Station S X). s.pending) (fresh world) world.nodes) ∙ queues_together sim IsSound Fits laws world ok) i;
+    nodes = (map_map (λ (s : Station S X). s.node) (station_in sim world) world.nodes ∙ map_same world.nodes) i;
+    pending = (ap together (map_map (λ (s : Station S X). s.pending) (station_in sim world) world.nodes) ∙ queues_together sim IsSound Fits laws world ok) i;
     kept_end = world.kept_end;
     quanta = world.quanta;
   }
@@ -135,10 +127,10 @@ module _ {S X : Type 0} (sim : Simulation S X) (IsSound : S → Type 0) (Fits : 
               ∙ single_first of_stations q (λ (t : Station S X). t.pending) 0 core.stations s (stations_numbered 0 core.stations resting.numbered) member (λ other h n. not_its other h q (λ same. n (sym same ∙ eqb-true _ _ e))))
           by q false e = not_its s member q (λ same. cc (e, eq-eqb q.to (sim.number s.node) same))
 
-      stations : core.stations ≡ map (fresh (world_of_core core)) (map (λ (s : Station S X). s.node) core.stations)
+      stations : core.stations ≡ map (station_in sim (world_of_core core)) (map (λ (s : Station S X). s.node) core.stations)
       stations =
-          map_itself core.stations (λ s. fresh (world_of_core core) s.node) (λ s member i. record { node = s.node; pending = part s member i; until = resting.ran s member i })
-          ∙ sym (map_map (fresh (world_of_core core)) (λ (s : Station S X). s.node) core.stations)
+          map_itself core.stations (λ s. station_in sim (world_of_core core) s.node) (λ s member i. record { node = s.node; pending = part s member i; until = resting.ran s member i })
+          ∙ sym (map_map (station_in sim (world_of_core core)) (λ (s : Station S X). s.node) core.stations)
 
   pub stands_for : StandsFor sim IsSound Fits
   stands_for = record { world = core_stands_for; core = core_is }
@@ -158,7 +150,7 @@ module _ {S X : Type 0} (sim : Simulation S X) (IsSound : S → Type 0) (Fits : 
         (narrowed sim IsSound Fits laws node world.pending (sim.number node) (ok.stations node member))
 
     abbrev pub station : (ℕ → Bool) → S → Station S X
-    station done node = if done (sim.number node) then record { node = (run node).node; pending = (run node).pending; until = until } else fresh world node
+    station done node = if done (sim.number node) then record { node = (run node).node; pending = (run node).pending; until = until } else station_in sim world node
 
     abbrev pub outs : ℕ → List (Message X)
     outs from = flat_map (λ node. if sim.number node == from then (run node).outs else []) world.nodes
@@ -197,15 +189,15 @@ module _ {S X : Type 0} (sim : Simulation S X) (IsSound : S → Type 0) (Fits : 
       station_number : (node : S) → IsIn node world.nodes → sim.number (station core.done node).node ≡ sim.number node
       station_number node member = by (core.done (sim.number node))
         where
-          by : (b : Bool) → sim.number (cond b (record { node = (run node).node; pending = (run node).pending; until = until }) (fresh world node)).node ≡ sim.number node
+          by : (b : Bool) → sim.number (cond b (record { node = (run node).node; pending = (run node).pending; until = until }) (station_in sim world node)).node ≡ sim.number node
           by true = (run_is node member).number
           by false = refl
 
       -- ---- a quantum
 
       module _ (at : ℕ) (not_done : core.done at ≡ false) where
-        fresh_there : (node : S) → (sim.number node == at) ≡ true → station core.done node ≡ fresh world node
-        fresh_there node e = ap (λ (b : Bool). cond b (record { node = (run node).node; pending = (run node).pending; until = until }) (fresh world node)) (ap core.done (eqb-true _ _ e) ∙ not_done)
+        fresh_there : (node : S) → (sim.number node == at) ≡ true → station core.done node ≡ station_in sim world node
+        fresh_there node e = ap (λ (b : Bool). cond b (record { node = (run node).node; pending = (run node).pending; until = until }) (station_in sim world node)) (ap core.done (eqb-true _ _ e) ∙ not_done)
 
         abbrev moved : Station S X → Station S X
         moved s = if is_at sim at s then (run_to sim until s).0 else s
@@ -218,12 +210,12 @@ module _ {S X : Type 0} (sim : Simulation S X) (IsSound : S → Type 0) (Fits : 
           where
             by : (b : Bool) → (sim.number node == at) ≡ b → moved (station core.done node) ≡ station marked node
             by true e =
-                ap moved (fresh_there node e) ∙ ap (λ (b : Bool). cond b (run_to sim until (fresh world node)).0 (fresh world node)) e
-                ∙ ap (λ (b : Bool). cond (b || core.done (sim.number node)) (record { node = (run node).node; pending = (run node).pending; until = until }) (fresh world node)) (sym e)
+                ap moved (fresh_there node e) ∙ ap (λ (b : Bool). cond b (run_to sim until (station_in sim world node)).0 (station_in sim world node)) e
+                ∙ ap (λ (b : Bool). cond (b || core.done (sim.number node)) (record { node = (run node).node; pending = (run node).pending; until = until }) (station_in sim world node)) (sym e)
             by false e =
                 ap (λ (n : ℕ). cond (n == at) (run_to sim until (station core.done node)).0 (station core.done node)) (station_number node member)
                 ∙ ap (λ (b : Bool). cond b (run_to sim until (station core.done node)).0 (station core.done node)) e
-                ∙ ap (λ (b : Bool). cond (b || core.done (sim.number node)) (record { node = (run node).node; pending = (run node).pending; until = until }) (fresh world node)) (sym e)
+                ∙ ap (λ (b : Bool). cond (b || core.done (sim.number node)) (record { node = (run node).node; pending = (run node).pending; until = until }) (station_in sim world node)) (sym e)
 
         abbrev its_outs : Station S X → List (Message X)
         its_outs s = if is_at sim at s then (run_to sim until s).1 else []
@@ -357,7 +349,7 @@ module _ {S X : Type 0} (sim : Simulation S X) (IsSound : S → Type 0) (Fits : 
             by (Some v) e = absurd (n ((run_is node member).kept q v e))
 
         -- with its inbox, a node has its part of what is pending after the round
-        queue_after : (node : S) → IsIn node world.nodes → placed (run node).pending (core.inbox (sim.number node)) ≡ to_node after.pending (sim.number node)
+        pub queue_after : (node : S) → IsIn node world.nodes → placed (run node).pending (core.inbox (sim.number node)) ≡ to_node after.pending (sim.number node)
         queue_after node member = same_queue _ _ (λ q. get_placed (run node).pending (core.inbox (sim.number node)) q ∙ by q (q.to == sim.number node) refl ∙ sym (get_to_node after.pending (sim.number node) q))
           where
             there : sim.number node < sim.nodes
@@ -379,20 +371,20 @@ module _ {S X : Type 0} (sim : Simulation S X) (IsSound : S → Type 0) (Fits : 
         abbrev turned : Core S X
         turned = record core { stations = map (with_inbox sim core.inbox) core.stations; kept_end = until; quanta = core.quanta + 1; done = λ node. false; inbox = λ to. [] }
 
-        station_after : (node : S) → IsIn node world.nodes → with_inbox sim core.inbox (station core.done node) ≡ fresh after (run node).node
+        station_after : (node : S) → IsIn node world.nodes → with_inbox sim core.inbox (station core.done node) ≡ station_in sim after (run node).node
         station_after node member =
-            ap (λ (b : Bool). with_inbox sim core.inbox (cond b (record { node = (run node).node; pending = (run node).pending; until = until }) (fresh world node))) (all_done (sim.number node) (numbered_below sim 0 world.nodes node ok.numbered member))
+            ap (λ (b : Bool). with_inbox sim core.inbox (cond b (record { node = (run node).node; pending = (run node).pending; until = until }) (station_in sim world node))) (all_done (sim.number node) (numbered_below sim 0 world.nodes node ok.numbered member))
             ∙ (λ i. record { node = (run node).node; pending = queue i; until = until })
           where
             queue : placed (run node).pending (core.inbox (sim.number (run node).node)) ≡ to_node after.pending (sim.number (run node).node)
             queue = ap (λ n. placed (run node).pending (core.inbox n)) (run_is node member).number ∙ queue_after node member ∙ ap (to_node after.pending) (sym (run_is node member).number)
 
-        stations_after : turned.stations ≡ map (fresh after) after.nodes
+        stations_after : turned.stations ≡ map (station_in sim after) after.nodes
         stations_after =
             ap (map (with_inbox sim core.inbox)) inside.stations ∙ map_map (with_inbox sim core.inbox) (station core.done) world.nodes
-            ∙ map_alike (λ node. with_inbox sim core.inbox (station core.done node)) (λ node. fresh after (run node).node) world.nodes station_after
-            ∙ sym (map_map (fresh after) (λ node. (run node).node) world.nodes)
-            ∙ ap (map (fresh after)) (sym (map_map (λ (r : FreeRun S X). r.node) run world.nodes))
+            ∙ map_alike (λ node. with_inbox sim core.inbox (station core.done node)) (λ node. station_in sim after (run node).node) world.nodes station_after
+            ∙ sym (map_map (station_in sim after) (λ node. (run node).node) world.nodes)
+            ∙ ap (map (station_in sim after)) (sym (map_map (λ (r : FreeRun S X). r.node) run world.nodes))
 
         no_out : (from to : ℕ) → core.out from to ≡ []
         no_out from to = by (lt_or_le from sim.nodes) (lt_or_le to sim.nodes)

@@ -1,29 +1,22 @@
 -- Every interleaving of quanta, deposits and turns comes to the serial run.
-use Rattle.std.proofs.Common.{◌≡◌, ◌≢◌, ℕ, suc, ◌+◌, ◌-◌, ◌<◌, ◌≤◌, ◌⊎◌, List, [], ◌∷◌, ◌++◌, map, take, drop, Bool, true, false, cond, Option, Some, None, refl, ap, sym, ◌∙◌, subst, inl, inr, ◌==◌, arith, eqb-true, eq-eqb, append-nil, append_assoc}
-use Rattle.std.specs.Prelude.{flat_map, ◌&&◌, ◌||◌, if◌then◌else◌}
-use Rattle.std.specs.List.{filter}
+use Rattle.std.proofs.Common.{◌≡◌, ◌≢◌, ℕ, ◌-◌, ◌<◌, ◌≤◌, ◌⊎◌, List, [], ◌∷◌, map, Bool, true, false, cond, Option, Some, None, refl, ap, sym, ◌∙◌, subst, inl, inr, arith}
 use Rattle.std.specs.Option.{option_map}
-use Rattle.std.specs.FinMap.{get}
 use Rattle.wt_proto.specs.declared.key.Key.{Key}
 use Rattle.discrete_events.specs.Simulation.{Simulation, Event, Message}
 use Rattle.discrete_events.specs.World.{World, events_in, events_below, least}
-use Rattle.discrete_events.specs.Serial.{placed, serial, final}
-use Rattle.discrete_events.specs.Round.{FreeRun, local, to_node, together, round, quantum_end}
-use Rattle.discrete_events.specs.Core.{Station, run_to, Core, world_of_core, opening, core_of, IsAtRest, CoreStep, Quantum, Deposit, Turn, IsEnabled, part_from, part_to, is_at, after_quantum, after_deposit, with_inbox, after_turn, within_quantum, while_open, core_step, core_run, AreEnabled}
-use Rattle.discrete_events.specs.Laws.{IsIn, IsAfter, IsSimulation, IsStation, IsNumbered, IsWorld, IsConservative, IsBetweenQuanta, IsSerialFrom}
+use Rattle.discrete_events.specs.Serial.{serial, final}
+use Rattle.discrete_events.specs.Round.{FreeRun, to_node, round, quantum_end}
+use Rattle.discrete_events.specs.Core.{Station, Core, opening, station_in, core_of, IsAtRest, CoreStep, Quantum, Deposit, Turn, IsEnabled, within_quantum, while_open, core_step, core_run, AreEnabled}
+use Rattle.discrete_events.specs.Laws.{IsIn, IsAfter, IsSimulation, IsStation, IsWorld, IsConservative, IsBetweenQuanta, IsSerialFrom}
 use Rattle.discrete_events.specs.Theorems.{picked, IsUnderWay, IsAmidQuantum, IsAmid, EveryInterleaving, IsSerialRound}
-use Rattle.discrete_events.proofs.Inside.{IsInside, fresh, run, station, outs, in_outs, out_is, inside_quantum, inside_deposit, turns_to}
+use Rattle.discrete_events.proofs.Inside.{IsInside, run, station, outs, in_outs, out_is, inside_quantum, inside_deposit, turns_to}
 use Rattle.discrete_events.proofs.Held.{inbox_is, inbox_new, ran, sent_fits, sent_away, sent_new}
-use Rattle.discrete_events.proofs.Lists.{or_else, in_append, in_right, from_map, from_filter, from_flat_map, map_alike, flat_map_alike, map_map, flat_map_map}
-use Rattle.discrete_events.proofs.Queues.{Queue, same_queue, get_placed, get_to_node, get_together, last_of, last_of_filter, last_where}
-use Rattle.discrete_events.proofs.Stations.{lt_or_le}
-use Rattle.discrete_events.proofs.FreeRuns.{IsRunOf, run_of, outs_fit as run_outs_fit, outs_late, last_below}
-use Rattle.discrete_events.proofs.Numbered.{numbered_below, single_first, last_alike}
+use Rattle.discrete_events.proofs.Lists.{from_map, map_alike, map_map}
+use Rattle.discrete_events.proofs.FreeRuns.{outs_late, last_below}
 use Rattle.discrete_events.specs.KeyTimes.{earlier_less}
 use Rattle.discrete_events.proofs.Keys.{upto_time}
 use Rattle.discrete_events.proofs.Events.{least_in, least_upto, event_is, counts_time, IsEventBelow}
-use Rattle.discrete_events.proofs.Peel.{after_less, own_in_world, tested, to_node_is, get_exchanged, narrowed}
-use Rattle.discrete_events.proofs.RoundIsSerial.{queues_together}
+use Rattle.discrete_events.proofs.Peel.{after_less, own_in_world, narrowed}
 use Rattle.discrete_events.proofs.Whole.{round_is_serial, serial_run_ends, from_world, joined, nothing_done}
 
 same_some : {A : Type 0} {a b : A} → Some a ≡ Some b → a ≡ b
@@ -132,8 +125,8 @@ module _ {S X : Type 0} (sim : Simulation S X) (IsSound : S → Type 0) (Fits : 
 
       rest : IsAtRest core → core ≡ core_of sim begun
       rest r = λ i. record {
-        stations = (inside.stations ∙ map_alike (station_there core.done) (fresh sim IsSound Fits laws begun) begun.nodes
-            (λ node member. ap (λ (b : Bool). cond b (record { node = (run_there node).node; pending = (run_there node).pending; until = until }) (fresh sim IsSound Fits laws begun node)) (r.done (sim.number node)))) i;
+        stations = (inside.stations ∙ map_alike (station_there core.done) (station_in sim begun) begun.nodes
+            (λ node member. ap (λ (b : Bool). cond b (record { node = (run_there node).node; pending = (run_there node).pending; until = until }) (station_in sim begun node)) (r.done (sim.number node)))) i;
         kept_end = inside.kept_end i;
         quanta = inside.quanta i;
         until = (inside.until_is ∙ sym (ap (option_map (λ (e : Key × Event X). quantum_end sim e.0.time)) opened.is_least)) i;
@@ -146,7 +139,7 @@ module _ {S X : Type 0} (sim : Simulation S X) (IsSound : S → Type 0) (Fits : 
       picks [] = refl
       picks (n ∷ ns) = λ i. by (core.done (sim.number n)) i ∷ picks ns i
         where
-          by : (b : Bool) → (cond b (record { node = (run_there n).node; pending = (run_there n).pending; until = until }) (fresh sim IsSound Fits laws begun n)).node ≡ cond b (run_there n).node n
+          by : (b : Bool) → (cond b (record { node = (run_there n).node; pending = (run_there n).pending; until = until }) (station_in sim begun n)).node ≡ cond b (run_there n).node n
           by true = refl
           by false = refl
 
@@ -187,7 +180,7 @@ module _ {S X : Type 0} (sim : Simulation S X) (IsSound : S → Type 0) (Fits : 
           of : (node : S) × IsIn node begun.nodes × (s ≡ station_there core.done node) → IsAfter (sim.last s.node) m.0
           of r = subst (λ (t : Station S X). IsAfter (sim.last t.node) m.0) (sym r.2) (by (core.done (sim.number r.0)))
             where
-              by : (b : Bool) → IsAfter (sim.last (cond b (record { node = (run_there r.0).node; pending = (run_there r.0).pending; until = until }) (fresh sim IsSound Fits laws begun r.0)).node) m.0
+              by : (b : Bool) → IsAfter (sim.last (cond b (record { node = (run_there r.0).node; pending = (run_there r.0).pending; until = until }) (station_in sim begun r.0)).node) m.0
               by true = last_below sim IsSound Fits laws until (below_budget opened.key.time) (sim.event_limit - sim.handled r.0) r.0 (to_node begun.pending (sim.number r.0)) (own_ok r.0 r.1) m.0 comes (after_all m comes r.0 r.1)
               by false = after_all m comes r.0 r.1
 

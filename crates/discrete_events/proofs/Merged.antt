@@ -1,20 +1,22 @@
 -- A round in which each node is given a merge of what the others sent it: its steps are enabled, and it is the round.
-use Rattle.std.proofs.Common.{◌≡◌, ◌≢◌, ℕ, zero, suc, ◌+◌, ◌<◌, ◌≤◌, ◌⊎◌, List, [], ◌∷◌, ◌++◌, map, take, drop, Bool, true, false, cond, Option, Some, None, refl, ap, sym, ◌∙◌, subst, inl, inr, ◌==◌, arith, eqb-true, eq-eqb, append-nil, append_assoc}
+use Rattle.std.proofs.Common.{◌≡◌, ◌≢◌, ℕ, zero, suc, ◌+◌, ◌<◌, ◌≤◌, ◌⊎◌, List, [], ◌∷◌, ◌++◌, map, take, drop, Bool, true, false, cond, Some, None, refl, ap, sym, ◌∙◌, subst, inl, inr, ◌==◌, arith, eqb-true, eq-eqb, append-nil, append_assoc}
 use Rattle.std.specs.Prelude.{flat_map, ◌&&◌, ◌||◌}
 use Rattle.std.specs.List.{range_with_len}
 use Rattle.std.specs.Option.{option_map}
 use Rattle.wt_proto.specs.declared.key.Key.{Key}
 use Rattle.discrete_events.specs.Simulation.{Simulation, Event, Message}
-use Rattle.discrete_events.specs.World.{World, events_in, least}
-use Rattle.discrete_events.specs.Round.{round, quantum_end}
-use Rattle.discrete_events.specs.Core.{Core, CoreStep, Quantum, Deposit, Turn, core_of, part_from, part_to, sent_to, after_deposit, within_quantum, while_open, core_step, core_run, AreEnabled}
-use Rattle.discrete_events.specs.Laws.{IsIn, IsSimulation, IsWorld, IsConservative, IsBetweenQuanta}
-use Rattle.discrete_events.specs.Theorems.{IsSerialRound}
-use Rattle.discrete_events.specs.Merges.{IsMerge, all_quanta, deposits_to, all_deposits, steps_to_turn, round_steps, core_at_turn, IsRoundOf, MergesAreRounds}
+use Rattle.discrete_events.specs.World.{World}
+use Rattle.discrete_events.specs.Round.{FreeRun, to_node, round, quantum_end}
+use Rattle.discrete_events.specs.Serial.{placed}
+use Rattle.discrete_events.specs.Core.{Core, CoreStep, Quantum, Deposit, Turn, station_in, with_messages, core_of, part_from, sent_to, after_deposit, within_quantum, while_open, core_step, core_run, AreEnabled}
+use Rattle.discrete_events.specs.Laws.{IsIn, IsSimulation, IsWorld}
+use Rattle.discrete_events.specs.Merges.{IsMerge, all_quanta, deposits_to, all_deposits, station_ran, steps_to_turn, core_at_turn, MergesAreRounds}
 use Rattle.discrete_events.proofs.Stations.{lt_or_le}
 use Rattle.discrete_events.proofs.Peel.{tested}
 use Rattle.discrete_events.proofs.Whole.{round_is_serial, from_world}
-use Rattle.discrete_events.proofs.Inside.{IsInside, and_false, inside_quantum, inside_deposit, turns_to}
+use Rattle.discrete_events.proofs.Numbered.{numbered_below}
+use Rattle.discrete_events.proofs.Lists.{map_alike, map_map}
+use Rattle.discrete_events.proofs.Inside.{IsInside, run, run_is, station, queue_after, and_false, inside_quantum, inside_deposit, turns_to}
 use Rattle.discrete_events.proofs.Interleaving.{below_budget, amid}
 
 -- ---- steps one after the other
@@ -133,14 +135,17 @@ module _ {S X : Type 0} (sim : Simulation S X) (IsSound : S → Type 0) (Fits : 
 
     deposits_run : (ms : List (Message X)) (core : Core S X) → Inside core → AllDone core → ((m : Message X) → IsIn m ms → m.0.from < sim.nodes) → ((from : ℕ) → from < sim.nodes → core.out from to ≡ part_from from ms) →
         AreEnabled sim core (deposits_to to ms) × Deposited to ms core (core_run sim (deposits_to to ms) core)
-    deposits_run [] core inside done sources out = (tt, record {
-      inside = inside;
-      done = done;
-      out_here = out;
-      out_elsewhere = λ from other n. refl;
-      inbox_here = sym (append-nil (core.inbox to));
-      inbox_elsewhere = λ other n. refl;
-    })
+    deposits_run [] core inside done sources out = (
+      tt,
+      record {
+        inside = inside;
+        done = done;
+        out_here = out;
+        out_elsewhere = λ from other n. refl;
+        inbox_here = sym (append-nil (core.inbox to));
+        inbox_elsewhere = λ other n. refl;
+      },
+    )
     deposits_run (m ∷ ms) core inside done sources out =
         let after = rest (deposits_run ms (mid m ms core out below) inside_then done (λ n h. sources n (inr h)) (out_then m ms core out below)) in
         ((enabled, after.0), after.1)
@@ -224,6 +229,30 @@ module _ {S X : Type 0} (sim : Simulation S X) (IsSound : S → Type 0) (Fits : 
       none = λ to k. begun.inbox to;
     }
 
+    -- each has run, and is then given its list
+    module _ (core : Core S X) (at : Given sim.nodes core) where
+      all_done : (n : S) → IsIn n world.nodes → core.done (sim.number n) ≡ true
+      all_done n member = at.done (sim.number n) (numbered_below sim 0 world.nodes n ok.numbered member)
+
+      ran : core.stations ≡ map (station_ran sim until world) world.nodes
+      ran = at.inside.stations ∙ map_alike (station sim IsSound Fits laws world ok until within core.done) (station_ran sim until world) world.nodes
+          (λ n member. ap (λ (b : Bool). cond b (station_ran sim until world n) (station_in sim world n)) (all_done n member))
+
+      given : map (λ node. with_messages (merged (sim.number node)) (station_ran sim until world node)) world.nodes ≡ (core_of sim (round sim until world)).stations
+      given =
+          map_alike (λ node. with_messages (merged (sim.number node)) (station_ran sim until world node)) (λ node. station_in sim (round sim until world) (station_ran sim until world node).node) world.nodes each
+          ∙ sym (map_map (station_in sim (round sim until world)) (λ node. (station_ran sim until world node).node) world.nodes)
+          ∙ ap (map (station_in sim (round sim until world))) (sym (map_map (λ (r : FreeRun S X). r.node) (run sim IsSound Fits laws world ok until within) world.nodes))
+        where
+          each : (n : S) → IsIn n world.nodes → with_messages (merged (sim.number n)) (station_ran sim until world n) ≡ station_in sim (round sim until world) (station_ran sim until world n).node
+          each n member = λ i. record { node = (station_ran sim until world n).node; pending = queue i; until = until }
+            where
+              queue : placed (station_ran sim until world n).pending (merged (sim.number n)) ≡ to_node (round sim until world).pending (sim.number (station_ran sim until world n).node)
+              queue =
+                  ap (placed (station_ran sim until world n).pending) (sym (at.inbox (sim.number n) (numbered_below sim 0 world.nodes n ok.numbered member)))
+                  ∙ queue_after sim IsSound Fits laws world ok until within core at.inside at.done (λ from to h k. at.out from to h k) n member
+                  ∙ ap (to_node (round sim until world).pending) (sym (run_is sim IsSound Fits laws world ok until within n member).number)
+
     -- ---- the round
 
     at_turn : Inside (core_of sim world) → AreEnabled sim (core_of sim world) (steps_to_turn sim merged) × Given sim.nodes (core_at_turn sim merged world)
@@ -249,7 +278,9 @@ module _ {S X : Type 0} (sim : Simulation S X) (IsSound : S → Type 0) (Fits : 
   merges_are_rounds conservative world key event merged ok between is merges = record {
     enabled = enabled_append sim (steps_to_turn sim merged) (Turn ∷ []) (core_of sim world) at.0 (turn_enabled sim IsSound Fits laws world ok (quantum_end sim key.time) within merged merges core at.1);
     amid = amid sim IsSound Fits laws conservative world core world ok between (record { key = key; event = event; is_least = is; inside = at.1.inside });
+    ran = ran sim IsSound Fits laws world ok (quantum_end sim key.time) within merged merges core at.1;
     delivered = at.1.inbox;
+    given = given sim IsSound Fits laws world ok (quantum_end sim key.time) within merged merges core at.1;
     comes_to = run_append sim (steps_to_turn sim merged) (Turn ∷ []) (core_of sim world) ∙ turn_run sim IsSound Fits laws world ok (quantum_end sim key.time) within merged merges core at.1 is_world;
   }
     where

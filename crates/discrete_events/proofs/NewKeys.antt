@@ -1,15 +1,15 @@
 -- Each source numbers its sends, so what the nodes exchange is under keys that are not pending.
-use Rattle.std.proofs.Common.{◌≡◌, ◌≢◌, ℕ, suc, ◌-◌, ◌<◌, ◌≤◌, ◌⊎◌, List, [], ◌∷◌, map, Bool, true, false, cond, Option, Some, None, refl, ap, sym, ◌∙◌, subst, inl, inr, arith}
+use Rattle.std.proofs.Common.{◌≡◌, ◌≢◌, ℕ, suc, ◌-◌, ◌≤◌, ◌⊎◌, List, [], ◌∷◌, map, Some, None, refl, ap, sym, ◌∙◌, subst, inl, inr, arith}
 use Rattle.std.specs.Prelude.{flat_map}
 use Rattle.std.specs.FinMap.{get}
 use Rattle.wt_proto.specs.declared.key.Key.{Key}
-use Rattle.discrete_events.specs.Simulation.{Simulation, Event, Message}
+use Rattle.discrete_events.specs.Simulation.{Simulation, Message}
 use Rattle.discrete_events.specs.World.{World}
 use Rattle.discrete_events.specs.Round.{FreeRun, local, to_node, runs_to, together}
 use Rattle.discrete_events.specs.Laws.{IsIn, IsSimulation, IsStation, IsNumbered, IsWorld}
 use Rattle.discrete_events.specs.Theorems.{AreNew, KeysAreNew}
 use Rattle.discrete_events.proofs.Lists.{from_flat_map, map_map, flat_map_map}
-use Rattle.discrete_events.proofs.Queues.{Queue, Pends, pends_not, get_together}
+use Rattle.discrete_events.proofs.Queues.{Pends, pends_not, get_together}
 use Rattle.discrete_events.proofs.Sequences.{RiseBetween, AreApart, rise_within, rise_apart, apart_append, new_of_apart}
 use Rattle.discrete_events.proofs.FreeRuns.{IsRunOf, run_of, outs_rise, from_before, own_new}
 use Rattle.discrete_events.proofs.Numbered.{numbered_from, none_first}

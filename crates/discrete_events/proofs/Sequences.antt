@@ -1,10 +1,8 @@
 -- Messages by the numbers that their source gave them: they rise, so no two have the same key.
-use Rattle.std.proofs.Common.{◌≡◌, ◌≢◌, ℕ, suc, ◌+◌, ◌<◌, ◌≤◌, List, [], ◌∷◌, ◌++◌, length, Bool, true, false, cond, Some, None, refl, ap, sym, ◌∙◌, subst, inl, inr, ◌⊎◌, ◌==◌, arith, eq-eqb}
+use Rattle.std.proofs.Common.{◌≡◌, ◌≢◌, ℕ, suc, ◌+◌, ◌<◌, ◌≤◌, List, [], ◌∷◌, ◌++◌, length, Bool, true, false, cond, Some, None, refl, ap, ◌∙◌, subst, inl, inr, ◌⊎◌, ◌==◌, arith, eq-eqb}
 use Rattle.std.specs.List.{filter}
 use Rattle.std.specs.FinMap.{get, insert, get-insert}
-use Rattle.std.specs.Ordering.{eq_by_cmp}
 use Rattle.wt_proto.specs.declared.key.Key.{Key}
-use Rattle.wt_proto.specs.KeyOrder.{key_cmp}
 use Rattle.wt_proto.proofs.KeyLaws.{key_cmp_total}
 use Rattle.discrete_events.specs.Simulation.{Message}
 use Rattle.discrete_events.specs.Core.{part_from}
@@ -113,5 +111,5 @@ module _ {X : Type 0} where
   new_of_apart pending (m ∷ ms) apart none = (
     none m (inl refl),
     new_of_apart (insert pending m.0 m.1) ms apart.1
-    (λ n is. get-insert key_cmp_total pending m.0 m.1 n.0 ∙ ap (λ (b : Bool). cond b (Some m.1) (get pending n.0)) (isnt_key n.0 m.0 (apart.0 n is)) ∙ none n (inr is)),
+        (λ n is. get-insert key_cmp_total pending m.0 m.1 n.0 ∙ ap (λ (b : Bool). cond b (Some m.1) (get pending n.0)) (isnt_key n.0 m.0 (apart.0 n is)) ∙ none n (inr is)),
   )

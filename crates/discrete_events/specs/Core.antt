@@ -45,11 +45,15 @@ world_of_core core = record {
 abbrev pub opening : {S X : Type 0} → Simulation S X → World S X → Option ℕ
 opening sim world = option_map (λ event. quantum_end sim event.0.time) (least (events_in sim world))
 
+-- a node of a world, with the messages to it
+abbrev pub station_in : {S X : Type 0} → Simulation S X → World S X → S → Station S X
+station_in sim world node = record { node = node; pending = to_node world.pending (sim.number node); until = world.kept_end }
+
 -- The core at rest of a world: each node has its messages, a quantum is open where there is an
 -- event, nobody is done, and nothing was sent or deposited.
 abbrev pub core_of : {S X : Type 0} → Simulation S X → World S X → Core S X
 core_of sim world = record {
-  stations = map (λ node. record { node = node; pending = to_node world.pending (sim.number node); until = world.kept_end }) world.nodes;
+  stations = map (station_in sim world) world.nodes;
   kept_end = world.kept_end;
   quanta = world.quanta;
   until = opening sim world;
@@ -121,9 +125,13 @@ after_deposit from to core = record core {
 abbrev pub reopened : {S X : Type 0} → Simulation S X → Core S X → Core S X
 reopened sim core = record core { until = opening sim (world_of_core core) }
 
--- a station once its inbox is placed among its pending messages
+-- a station once some messages are placed among its pending ones
+abbrev pub with_messages : {S X : Type 0} → List (Message X) → Station S X → Station S X
+with_messages messages station = record station { pending = placed station.pending messages }
+
+-- and once those of its inbox are
 abbrev pub with_inbox : {S X : Type 0} → Simulation S X → (ℕ → List (Message X)) → Station S X → Station S X
-with_inbox sim inbox station = record station { pending = placed station.pending (inbox (sim.number station.node)) }
+with_inbox sim inbox station = with_messages (inbox (sim.number station.node)) station
 
 -- What was deposited is placed among the pending messages, and the next quantum is opened.
 abbrev pub after_turn : {S X : Type 0} → Simulation S X → ℕ → Core S X → Core S X

@@ -5,7 +5,7 @@ use Rattle.wt_proto.specs.declared.key.Key.{Key}
 use Rattle.discrete_events.specs.Simulation.{Simulation, Event, Message}
 use Rattle.discrete_events.specs.World.{World, events_in, least}
 use Rattle.discrete_events.specs.Round.{round, quantum_end}
-use Rattle.discrete_events.specs.Core.{Core, CoreStep, Quantum, Deposit, Turn, core_of, part_from, sent_to, core_run, AreEnabled}
+use Rattle.discrete_events.specs.Core.{Station, Core, CoreStep, Quantum, Deposit, Turn, run_to, station_in, with_messages, core_of, part_from, sent_to, core_run, AreEnabled}
 use Rattle.discrete_events.specs.Laws.{IsIn, IsWorld, IsConservative, IsBetweenQuanta}
 use Rattle.discrete_events.specs.Theorems.{IsAmidQuantum}
 
@@ -38,13 +38,21 @@ round_steps sim merged = steps_to_turn sim merged ++ Turn ∷ []
 abbrev pub core_at_turn : {S X : Type 0} → Simulation S X → (ℕ → List (Message X)) → World S X → Core S X
 core_at_turn sim merged world = core_run sim (steps_to_turn sim merged) (core_of sim world)
 
--- Each step of the round is enabled. At the turn all nodes are done, each has its list in its inbox, and all in it may be
--- given to it. The turn leads to the core of the world after the round.
+-- a node's station once it has run
+abbrev pub station_ran : {S X : Type 0} → Simulation S X → ℕ → World S X → S → Station S X
+station_ran sim until world node = (run_to sim until (station_in sim world node)).0
+
+-- Each step of the round is enabled. At the turn all nodes have run, each has its list in its inbox, and what is in it
+-- could be placed. The turn leads to the core of the world after the round, in which each node has run and was given its
+-- list.
 pub record IsRoundOf {S X : Type 0} (sim : Simulation S X) (Fits : Message X → Type 0) (until : ℕ) (world : World S X) (merged : ℕ → List (Message X)) : Type 0 where
   pub enabled : AreEnabled sim (core_of sim world) (round_steps sim merged)
   pub amid : IsAmidQuantum sim Fits world until (core_at_turn sim merged world)
+  pub ran : (core_at_turn sim merged world).stations ≡ map (station_ran sim until world) world.nodes
   pub delivered : (to : ℕ) → to < sim.nodes → (core_at_turn sim merged world).inbox to ≡ merged to
   pub comes_to : core_run sim (round_steps sim merged) (core_of sim world) ≡ core_of sim (round sim until world)
+  pub given : map (λ node. with_messages (merged (sim.number node)) (station_ran sim until world node)) world.nodes
+      ≡ (core_of sim (round sim until world)).stations
 
 -- Whatever the merges are in which the nodes are given what was sent, the round comes to the same world.
 abbrev pub MergesAreRounds : {S X : Type 0} → Simulation S X → (S → Type 0) → (Message X → Type 0) → Type 0
