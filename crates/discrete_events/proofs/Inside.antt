@@ -1,7 +1,6 @@
 -- A core inside the quantum that a world opens: what its quanta, deposits and its turn keep.
 use Rattle.std.proofs.Common.{◌≡◌, ◌≢◌, ℕ, suc, ◌+◌, ◌-◌, ◌<◌, ◌≤◌, ◌⊎◌, List, [], ◌∷◌, ◌++◌, map, take, drop, Bool, true, false, cond, Option, Some, None, refl, ap, sym, ◌∙◌, subst, inl, inr, ◌==◌, arith, eqb-true, eq-eqb, append-nil, append_assoc}
 use Rattle.std.specs.Prelude.{flat_map, ◌&&◌, ◌||◌, if◌then◌else◌}
-use Rattle.std.specs.List.{filter}
 use Rattle.std.specs.FinMap.{get}
 use Rattle.wt_proto.specs.declared.key.Key.{Key}
 use Rattle.discrete_events.specs.Simulation.{Simulation, Message}
@@ -11,21 +10,13 @@ use Rattle.discrete_events.specs.Round.{FreeRun, local, to_node, together, round
 use Rattle.discrete_events.specs.Core.{Station, run_to, Core, world_of_core, opening, station_in, core_of, part_from, part_to, is_at, after_quantum, after_deposit, with_inbox, after_turn}
 use Rattle.discrete_events.specs.Laws.{IsIn, IsSimulation, IsNumbered, IsWorld}
 use Rattle.discrete_events.specs.Theorems.{IsResting, StandsFor}
-use Rattle.discrete_events.proofs.Lists.{or_else, in_append, in_right, from_filter, from_flat_map, map_alike, flat_map_alike, map_map, flat_map_map}
+use Rattle.discrete_events.proofs.Lists.{filter_append, filter_all, filter_none, or_else, in_append, in_right, from_filter, from_flat_map, map_alike, flat_map_alike, map_map, flat_map_map}
 use Rattle.discrete_events.proofs.Queues.{Queue, same_queue, get_placed, get_to_node, get_together, last_of, last_of_filter, last_where}
 use Rattle.discrete_events.proofs.Stations.{lt_or_le}
 use Rattle.discrete_events.proofs.FreeRuns.{IsRunOf, run_of, outs_fit as run_outs_fit}
 use Rattle.discrete_events.proofs.Numbered.{numbered_below, single_first, last_alike}
 use Rattle.discrete_events.proofs.Peel.{tested, to_node_is, get_exchanged, narrowed}
 use Rattle.discrete_events.proofs.RoundIsSerial.{queues_together}
-
-filter_append : {A : Type 0} (p : A → Bool) (xs ys : List A) → filter p (xs ++ ys) ≡ filter p xs ++ filter p ys
-filter_append p [] ys = refl
-filter_append p (x ∷ xs) ys = ap (λ zs. cond (p x) (x ∷ zs) zs) (filter_append p xs ys) ∙ by (p x)
-  where
-    by : (b : Bool) → cond b (x ∷ (filter p xs ++ filter p ys)) (filter p xs ++ filter p ys) ≡ cond b (x ∷ filter p xs) (filter p xs) ++ filter p ys
-    by true = refl
-    by false = refl
 
 no_left : {A : Type 0} (xs ys : List A) → xs ++ ys ≡ [] → xs ≡ []
 no_left [] ys e = refl
@@ -43,14 +34,6 @@ in_first : {A : Type 0} (x : A) (xs : List A) → IsIn x (take 1 xs) → IsIn x 
 in_first x [] is = is
 in_first x (y ∷ ys) (inl e) = inl e
 in_first x (y ∷ ys) (inr is) = absurd is
-
-filter_all : {A : Type 0} (p : A → Bool) (xs : List A) → ((x : A) → IsIn x xs → p x ≡ true) → filter p xs ≡ xs
-filter_all p [] all = refl
-filter_all p (x ∷ xs) all = λ i. cond (all x (inl refl) i) (x ∷ filter_all p xs (λ y h. all y (inr h)) i) (filter_all p xs (λ y h. all y (inr h)) i)
-
-filter_none : {A : Type 0} (p : A → Bool) (xs : List A) → ((x : A) → IsIn x xs → p x ≡ false) → filter p xs ≡ []
-filter_none p [] none = refl
-filter_none p (x ∷ xs) none = ap (λ (b : Bool). cond b (x ∷ filter p xs) (filter p xs)) (none x (inl refl)) ∙ filter_none p xs (λ y h. none y (inr h))
 
 pub and_false : (b : Bool) → (b && false) ≡ false
 and_false true = refl

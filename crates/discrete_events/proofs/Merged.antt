@@ -8,14 +8,14 @@ use Rattle.discrete_events.specs.Simulation.{Simulation, Event, Message}
 use Rattle.discrete_events.specs.World.{World}
 use Rattle.discrete_events.specs.Round.{FreeRun, to_node, round, quantum_end}
 use Rattle.discrete_events.specs.Serial.{placed}
-use Rattle.discrete_events.specs.Core.{Core, CoreStep, Quantum, Deposit, Turn, station_in, with_messages, core_of, part_from, sent_to, after_deposit, within_quantum, while_open, core_step, core_run, AreEnabled}
+use Rattle.discrete_events.specs.Core.{Core, CoreStep, Quantum, Deposit, Turn, station_in, with_messages, core_of, part_from, part_to, quantum_outs, sent_to, after_deposit, within_quantum, while_open, core_step, core_run, AreEnabled}
 use Rattle.discrete_events.specs.Laws.{IsIn, IsSimulation, IsWorld}
 use Rattle.discrete_events.specs.Merges.{IsMerge, all_quanta, deposits_to, all_deposits, station_ran, steps_to_turn, core_at_turn, MergesAreRounds}
 use Rattle.discrete_events.proofs.Stations.{lt_or_le}
 use Rattle.discrete_events.proofs.Peel.{tested}
 use Rattle.discrete_events.proofs.Whole.{round_is_serial, from_world}
 use Rattle.discrete_events.proofs.Numbered.{numbered_below}
-use Rattle.discrete_events.proofs.Lists.{map_alike, map_map}
+use Rattle.discrete_events.proofs.Lists.{from_filter, from_flat_map, filter_all, filter_none, filter_swap, filter_flat, flat_map_alike, map_alike, map_map}
 use Rattle.discrete_events.proofs.Inside.{IsInside, run, run_is, station, queue_after, and_false, inside_quantum, inside_deposit, turns_to}
 use Rattle.discrete_events.proofs.Interleaving.{below_budget, amid}
 
@@ -165,6 +165,27 @@ module _ {S X : Type 0} (sim : Simulation S X) (IsSound : S → Type 0) (Fits : 
             (then.0, one_more m ms core out below (core_run sim (deposits_to to ms) (mid m ms core out below)) then.1)
 
   -- ---- the deposits of all nodes
+
+  -- What all nodes sent, in the order of the nodes, is such a merge for each.
+  pub in_order : (to : ℕ) → IsMerge sim.nodes (λ from. sent_to sim until world from to) (part_to to (flat_map (quantum_outs sim until world) world.nodes))
+  in_order to = record {
+    sources = λ m h. below m (from_flat_map (quantum_outs sim until world) m world.nodes (from_filter (λ (k : Message X). k.0.to == to) m (flat_map (quantum_outs sim until world) world.nodes) h).0);
+    parts = λ from h.
+        filter_swap (λ (m : Message X). m.0.from == from) (λ (m : Message X). m.0.to == to) (flat_map (quantum_outs sim until world) world.nodes)
+        ∙ ap (part_to to) (filter_flat (λ (m : Message X). m.0.from == from) (quantum_outs sim until world) world.nodes
+        ∙ flat_map_alike (λ n. part_from from (quantum_outs sim until world n)) (λ n. cond (sim.number n == from) (quantum_outs sim until world n) []) world.nodes (λ n member. by from n member (sim.number n == from) refl));
+  }
+    where
+      source : (n : S) → IsIn n world.nodes → (m : Message X) → IsIn m (quantum_outs sim until world n) → m.0.from ≡ sim.number n
+      source n member = (run_is sim IsSound Fits laws world ok until within n member).source
+
+      below : (m : Message X) → (n : S) × IsIn n world.nodes × IsIn m (quantum_outs sim until world n) → m.0.from < sim.nodes
+      below m (n, member, h) = let e = source n member m h in let low = numbered_below sim 0 world.nodes n ok.numbered member in omega arith
+
+      by : (from : ℕ) (n : S) → IsIn n world.nodes → (b : Bool) → (sim.number n == from) ≡ b → part_from from (quantum_outs sim until world n) ≡ cond b (quantum_outs sim until world n) []
+      by from n member true e = filter_all (λ (m : Message X). m.0.from == from) (quantum_outs sim until world n) (λ m h. eq-eqb _ _ (source n member m h ∙ eqb-true _ _ e))
+      by from n member false e = filter_none (λ (m : Message X). m.0.from == from) (quantum_outs sim until world n)
+          (λ m h. tested m.0.from from (λ same. let t : (sim.number n == from) ≡ true = eq-eqb (sim.number n) from (sym (source n member m h) ∙ same) in cc (e, t)))
 
   module _ (merged : ℕ → List (Message X)) (merges : (to : ℕ) → to < sim.nodes → IsMerge sim.nodes (λ from. sent_to sim until world from to) (merged to)) where
     -- the nodes below a number have their lists, and the others have nothing yet

@@ -1,11 +1,11 @@
 -- A round in which each node is given what the others sent it, in any order that keeps that of each of them. Own.
-use Rattle.std.specs.Prelude.{◌≡◌, ℕ, ◌<◌, List, [], ◌∷◌, ◌++◌, map, flat_map, Some}
+use Rattle.std.specs.Prelude.{◌≡◌, ℕ, ◌<◌, ◌≤◌, List, [], ◌∷◌, ◌++◌, map, flat_map, Some}
 use Rattle.std.specs.List.{range_with_len}
 use Rattle.wt_proto.specs.declared.key.Key.{Key}
 use Rattle.discrete_events.specs.Simulation.{Simulation, Event, Message}
 use Rattle.discrete_events.specs.World.{World, events_in, least}
 use Rattle.discrete_events.specs.Round.{round, quantum_end}
-use Rattle.discrete_events.specs.Core.{Station, Core, CoreStep, Quantum, Deposit, Turn, run_to, station_in, with_messages, core_of, part_from, sent_to, core_run, AreEnabled}
+use Rattle.discrete_events.specs.Core.{Station, Core, CoreStep, Quantum, Deposit, Turn, run_to, station_in, with_messages, core_of, part_from, part_to, quantum_outs, sent_to, core_run, AreEnabled}
 use Rattle.discrete_events.specs.Laws.{IsIn, IsWorld, IsConservative, IsBetweenQuanta}
 use Rattle.discrete_events.specs.Theorems.{IsAmidQuantum}
 
@@ -61,3 +61,9 @@ MergesAreRounds {S} {X} sim IsSound Fits =
     IsWorld sim IsSound Fits world → IsBetweenQuanta sim world → least (events_in sim world) ≡ Some (key, event) →
     ((to : ℕ) → to < sim.nodes → IsMerge sim.nodes (λ from. sent_to sim (quantum_end sim key.time) world from to) (merged to)) →
     IsRoundOf sim Fits (quantum_end sim key.time) world merged
+
+-- What all nodes sent, in the order of the nodes, is such a merge for each.
+abbrev pub InOrderIsMerge : {S X : Type 0} → Simulation S X → (S → Type 0) → (Message X → Type 0) → Type 0
+InOrderIsMerge {S} {X} sim IsSound Fits =
+    (until : ℕ) (world : World S X) (to : ℕ) → until ≤ sim.budget → IsWorld sim IsSound Fits world →
+    IsMerge sim.nodes (λ from. sent_to sim until world from to) (part_to to (flat_map (quantum_outs sim until world) world.nodes))

@@ -1,6 +1,6 @@
 ghost use Rattle.discrete_events.specs.Simulation.{Simulation, Message};
 ghost use Rattle.discrete_events.specs.Laws.{IsSimulation};
-ghost use Rattle.discrete_events.specs.Merges.{MergesAreRounds};
+ghost use Rattle.discrete_events.specs.Merges.{InOrderIsMerge, MergesAreRounds};
 ghost use Rattle.discrete_events.specs.Theorems.{LateMessagePasses, LeastEventPeels, RoundIsSerial, RoundsAreSerial, SerialRunEnds, NoPast, NoPastOfRun, KeysAreNew, KeysRise, StartIsWorld, EveryInterleaving, StandsFor};
 
 /// A simulation whose node states are the values of a type, and that keeps the laws.
@@ -66,5 +66,6 @@ pub fn every_interleaving<T: Simulated>()
 /// A round in which each node is given what the others sent it, in any order that keeps that of each of them, comes to
 /// the same world.
 pub fn merges_are_rounds<T: Simulated>()
-    ensures { MergesAreRounds T.simulation T.is_sound T.fits }
+    ensures any { MergesAreRounds T.simulation T.is_sound T.fits }
+    ensures in_order { InOrderIsMerge T.simulation T.is_sound T.fits }
 {}
