@@ -9,7 +9,7 @@ use Rattle.discrete_events.specs.Round.{FreeRun, to_node, round, quantum_end}
 use Rattle.discrete_events.specs.Core.{Station, Core, opening, station_in, core_of, IsAtRest, CoreStep, Quantum, Deposit, Turn, IsEnabled, within_quantum, while_open, core_step, core_run, AreEnabled}
 use Rattle.discrete_events.specs.Laws.{IsIn, IsAfter, IsSimulation, IsStation, IsWorld, IsConservative, IsBetweenQuanta, IsSerialFrom}
 use Rattle.discrete_events.specs.Theorems.{picked, IsUnderWay, IsAmidQuantum, IsAmid, EveryInterleaving, IsSerialRound}
-use Rattle.discrete_events.proofs.Inside.{IsInside, run, station, outs, in_outs, out_is, inside_quantum, inside_deposit, turns_to}
+use Rattle.discrete_events.proofs.Inside.{IsInside, run, station, outs, in_outs, outs_source, out_is, inside_quantum, inside_deposit, turns_to}
 use Rattle.discrete_events.proofs.Held.{inbox_is, inbox_new, ran, sent_fits, sent_away, sent_new}
 use Rattle.discrete_events.proofs.Lists.{from_map, map_alike, map_map}
 use Rattle.discrete_events.proofs.FreeRuns.{outs_late, last_below}
@@ -204,6 +204,7 @@ module _ {S X : Type 0} (sim : Simulation S X) (IsSound : S → Type 0) (Fits : 
         ran = ran sim IsSound Fits laws begun ok until (below_budget opened.key.time) core inside
             (let first = between opened.key opened.event (least_in _ (opened.key, opened.event) opened.is_least) in let b = is_below in omega arith);
         outs = λ from to m h. under_way from to m (out_is sim IsSound Fits laws begun ok until (below_budget opened.key.time) core inside from to m h);
+        sources = λ from to m h. outs_source sim IsSound Fits laws begun ok until (below_budget opened.key.time) from m (out_is sim IsSound Fits laws begun ok until (below_budget opened.key.time) core inside from to m h).0;
         inboxes = λ to m h. under_way m.0.from to m (inbox_is sim IsSound Fits laws begun ok until (below_budget opened.key.time) core inside to m h);
         new = inbox_new sim IsSound Fits laws begun ok until (below_budget opened.key.time) core inside;
         parts = inside.parts;

@@ -146,6 +146,7 @@ pub record IsAmidQuantum {S X : Type 0} (sim : Simulation S X) (Fits : Message X
   pub nodes : map (λ station. station.node) core.stations ≡ picked sim core.done begun.nodes ended.nodes
   pub ran : (station : Station S X) → IsIn station core.stations → station.until ≤ until
   pub outs : (from to : ℕ) (message : Message X) → IsIn message (core.out from to) → IsUnderWay sim Fits until core to message
+  pub sources : (from to : ℕ) (message : Message X) → IsIn message (core.out from to) → message.0.from ≡ from
   pub inboxes : (to : ℕ) (message : Message X) → IsIn message (core.inbox to) → IsUnderWay sim Fits until core to message
   pub new : (station : Station S X) → IsIn station core.stations → AreNew station.pending (core.inbox (sim.number station.node))
   pub parts : (from to : ℕ) →
