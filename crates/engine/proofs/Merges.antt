@@ -10,10 +10,10 @@ use Rattle.wt_proto.specs.Messages.{StampedFits}
 use Rattle.discrete_events.specs.Simulation.{Simulation, Event, Message}
 use Rattle.discrete_events.specs.World.{events_in, least}
 use Rattle.discrete_events.specs.Round.{local, together, round}
-use Rattle.discrete_events.specs.Core.{Station, Core, run_to as run_of_station, with_messages, core_of, part_to, quantum_outs, sent_to}
+use Rattle.discrete_events.specs.Core.{Station, Core, run_to as run_of_station, station_in, with_messages, core_of, part_to, quantum_outs, sent_to, core_run}
 use Rattle.discrete_events.specs.Laws.{IsIn, IsNumbered, IsWorld}
 use Rattle.discrete_events.specs.Theorems.{AreNew, IsUnderWay}
-use Rattle.discrete_events.specs.Merges.{IsMerge, IsRoundOf, core_at_turn, station_ran}
+use Rattle.discrete_events.specs.Merges.{IsMerge, IsRoundOf, core_at_turn, round_steps, station_ran}
 use Rattle.discrete_events.proofs.Lists.{in_map, from_map, map_alike, map_map, flat_map_alike, flat_map_map, filter_map}
 use Rattle.discrete_events.proofs.Queues.{Queue}
 use Rattle.discrete_events.proofs.Numbered.{numbered_from, numbered_below}
@@ -180,7 +180,14 @@ module _ (engine : EngineModel) (running : IsRunning engine) (key : Key) (event 
             (is_round.amid.new (station_ran sim end (world_of engine) s.node.state)
             (subst (λ ts. IsIn (station_ran sim end (world_of engine) s.node.state) ts) (sym is_round.ran) (in_map (station_ran sim end (world_of engine)) s.node.state (nodes_of engine.stations) (member_node engine running s member))))
 
-  -- ---- the stations after it
+  -- ---- the stations before it, and after it
+
+  -- the stations are those of the core of the world
+  pub stations_begin : map station_of engine.stations ≡ (core_of sim (world_of engine)).stations
+  stations_begin =
+      map_alike station_of (λ (s : StationModel). station_in sim (world_of engine) s.node.state) engine.stations
+      (λ s member i. record { node = s.node.state; pending = part engine running s member i; until = (its engine running s member).ran i })
+      ∙ sym (map_map (station_in sim (world_of engine)) (λ (s : StationModel). s.node.state) engine.stations)
 
   module _ (stations : List StationModel) (have : HaveAdvanced end engine.stations stations) where
     abbrev after : World
@@ -200,6 +207,10 @@ module _ (engine : EngineModel) (running : IsRunning engine) (key : Key) (event 
         (λ s member. given_station (have.letters s.node.state.number) (ran_to end s) ∙ ap (with_messages (map message_under_key (have.letters s.node.state.number))) (ran_station s member))
         ∙ sym (map_map node_given (λ (s : StationModel). s.node.state) engine.stations)
         ∙ (is_round have.letters have.merges).given
+
+    -- They went there by the steps of the round.
+    pub stations_went : map station_of stations ≡ (core_run sim (round_steps sim (λ to. map message_under_key (have.letters to))) (core_of sim (world_of engine))).stations
+    stations_went = stations_are ∙ ap (λ (c : Core NodeState Msg). c.stations) (sym (is_round have.letters have.merges).comes_to)
 
     is_world : IsWorld sim (IsNode engine.machine) (Fits engine.machine) after
     is_world = from_world sim (IsNode engine.machine) (Fits engine.machine) (laws engine running) (world_of engine) after running.world
