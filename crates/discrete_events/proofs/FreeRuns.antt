@@ -8,10 +8,12 @@ use Rattle.discrete_events.specs.World.{counts_below, steps_below, reaches_below
 use Rattle.discrete_events.specs.Serial.{placed, taken}
 use Rattle.discrete_events.specs.Round.{FreeRun, to_itself, to_others, with_outs, after_own, free_run}
 use Rattle.discrete_events.specs.Laws.{IsIn, IsAfter, IsSent, Reacts, IsSimulation, IsStation}
+use Rattle.discrete_events.specs.Theorems.{AreNew}
 use Rattle.discrete_events.proofs.Lists.{or_else, all_in, from_filter, in_append, from_any}
 use Rattle.discrete_events.specs.KeyTimes.{earlier_less}
 use Rattle.discrete_events.proofs.Keys.{less_time}
-use Rattle.discrete_events.proofs.Queues.{Queue, same_queue, get_kept, get_placed, last_of, last_where}
+use Rattle.discrete_events.proofs.Queues.{Queue, Pends, pends_not, same_queue, get_kept, get_placed, last_of, last_where}
+use Rattle.discrete_events.proofs.Sequences.{RiseBetween, numbered_rise, rise_within, rise_apart, rise_append, rise_filter, new_of_apart}
 use Rattle.discrete_events.proofs.Events.{IsEventOf, IsEventBelow, both_true, counts_time, event_is, least_in}
 use Rattle.discrete_events.proofs.Stations.{taken_alike, from_placed, left_over, left_alone, reacts, goes_on}
 
@@ -95,7 +97,21 @@ module _ {S X : Type 0} (sim : Simulation S X) (IsSound : S → Type 0) (Fits : 
     others_sent m is = all_in (IsSent sim Fits node key) m sends own_reacts.sent (from_filter _ m sends is).0
 
     pub own_station : IsStation sim IsSound Fits new_node (placed (taken event pending) own)
-    own_station = goes_on sim IsSound Fits laws until (node ∷ []) pending key event is_least (own_event sim until node pending key event is_least) st within own own_sent
+    own_station = goes_on sim IsSound Fits laws until (node ∷ []) pending key event is_least (own_event sim until node pending key event is_least) st within own (λ m is. (from_filter _ m sends is).0)
+
+    sends_rise : RiseBetween (sim.sent node) (sim.sent new_node) sends
+    sends_rise = numbered_rise _ _ _ own_reacts.numbered own_reacts.counted
+
+    -- what it sends to itself is new
+    pub own_new : AreNew (taken event pending) own
+    own_new = new_of_apart (taken event pending) own (rise_apart _ _ own (rise_filter (λ (m : Message X). m.0.to == sim.number node) _ _ sends sends_rise))
+        (λ m is. pends_not (taken event pending) m.0 (λ there. none m is there.0 there.1))
+      where
+        none : (m : Message X) → IsIn m own → (v : X) → get (taken event pending) m.0 ≡ Some v → ⊥
+        none m is v e =
+            let before = st.numbered m.0 v (left_over sim IsSound Fits laws pending node key event st.fitting (counts_and_is sim until node pending key event (least_in _ (key, event) is_least)).1 m.0 v e).0 (own_sent m is).source in
+            let low = (rise_within _ _ sends m sends_rise (from_filter _ m sends is).0).0 in
+            omega arith
 
     key_below : key.time < until
     key_below = counts_time sim until node key.time (counts_and_is sim until node pending key event (least_in _ (key, event) is_least)).0
@@ -265,6 +281,51 @@ module _ {S X : Type 0} (sim : Simulation S X) (IsSound : S → Type 0) (Fits : 
       by rest (Some e) is =
           rest (new_node node pending e.0 e.1 is st) _ (own_station node pending e.0 e.1 is st) q late
           (subst (λ last. IsAfter last q) (sym (own_reacts node pending e.0 e.1 is st).last) (earlier_less e.0 q (let b = key_below node pending e.0 e.1 is st in omega arith)))
+
+  -- ---- the numbers of what it sends, and where what it has left comes from
+
+  -- What it sends to others has numbers that rise, from the count of its sends before the run up to that after it.
+  pub outs_rise : (n : ℕ) (node : S) (pending : Queue X) → IsStation sim IsSound Fits node pending → RiseBetween (sim.sent node) (sim.sent (free_run sim until n node pending).node) (free_run sim until n node pending).outs
+  unfolding free_run
+  outs_rise zero node pending st = omega arith
+  outs_rise (suc n) node pending st = by (outs_rise n) (least (events_below sim until (node ∷ []) pending)) refl
+    where
+      by : ((new : S) (queue : Queue X) → IsStation sim IsSound Fits new queue → RiseBetween (sim.sent new) (sim.sent (free_run sim until n new queue).node) (free_run sim until n new queue).outs) → (o : Option (Key × Event X)) → least (events_below sim until (node ∷ []) pending) ≡ o →
+          RiseBetween (sim.sent node) (sim.sent (after_own sim (free_run sim until n) node pending o).node) (after_own sim (free_run sim until n) node pending o).outs
+      by rest None is = omega arith
+      by rest (Some e) is =
+          let new = new_node node pending e.0 e.1 is st in
+          let later = free_run sim until n new (placed (taken e.1 pending) (own node pending e.0 e.1 is st)) in
+          rise_append (sim.sent node) (sim.sent new) (sim.sent later.node) (to_others sim node (sends node pending e.0 e.1 is st)) later.outs
+          (rise_filter (λ (m : Message X). not (m.0.to == sim.number node)) _ _ (sends node pending e.0 e.1 is st) (sends_rise node pending e.0 e.1 is st))
+          (rest new (placed (taken e.1 pending) (own node pending e.0 e.1 is st)) (own_station node pending e.0 e.1 is st))
+
+  step_before : (n : ℕ) (node : S) (pending : Queue X) → IsStation sim IsSound Fits node pending →
+      ((new : S) (queue : Queue X) → IsStation sim IsSound Fits new queue → (q : Key) → Pends (free_run sim until n new queue).pending q → Pends queue q ⊎ (q.from ≡ sim.number new)) →
+      (o : Option (Key × Event X)) → least (events_below sim until (node ∷ []) pending) ≡ o →
+      (q : Key) → Pends (after_own sim (free_run sim until n) node pending o).pending q → Pends pending q ⊎ (q.from ≡ sim.number node)
+  step_before n node pending st rest None is q h = inl h
+  step_before n node pending st rest (Some e) is q h = either (rest new queue (own_station node pending e.0 e.1 is st) q h)
+    where
+      new : S
+      new = new_node node pending e.0 e.1 is st
+
+      queue : Queue X
+      queue = placed (taken e.1 pending) (own node pending e.0 e.1 is st)
+
+      was : (w : X) → IsIn (q, w) (own node pending e.0 e.1 is st) ⊎ (get (taken e.1 pending) q ≡ Some w) → Pends pending q ⊎ (q.from ≡ sim.number node)
+      was w (inl k) = inr (own_sent node pending e.0 e.1 is st (q, w) k).source
+      was w (inr k) = inl (w, (left_over sim IsSound Fits laws pending node e.0 e.1 st.fitting (counts_and_is sim until node pending e.0 e.1 (least_in _ (e.0, e.1) is)).1 q w k).0)
+
+      either : Pends queue q ⊎ (q.from ≡ sim.number new) → Pends pending q ⊎ (q.from ≡ sim.number node)
+      either (inl (w, k)) = was w (from_placed (taken e.1 pending) (own node pending e.0 e.1 is st) q w k)
+      either (inr k) = inr (k ∙ (own_reacts node pending e.0 e.1 is st).number)
+
+  -- What is pending after a run was so before it, or is from the node itself.
+  pub from_before : (n : ℕ) (node : S) (pending : Queue X) → IsStation sim IsSound Fits node pending → (q : Key) → Pends (free_run sim until n node pending).pending q → Pends pending q ⊎ (q.from ≡ sim.number node)
+  unfolding free_run
+  from_before zero node pending st q = λ h. inl h
+  from_before (suc n) node pending st q = step_before n node pending st (λ new queue. from_before n new queue) (least (events_below sim until (node ∷ []) pending)) refl q
 
 -- A node without an event below the time does nothing.
 pub rests : {S X : Type 0} (sim : Simulation S X) (until n : ℕ) (node : S) (pending : Queue X) → least (events_below sim until (node ∷ []) pending) ≡ None → free_run sim until n node pending ≡ record { node = node; pending = pending; outs = [] }

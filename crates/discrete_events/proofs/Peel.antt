@@ -16,7 +16,9 @@ use Rattle.discrete_events.specs.Laws.{IsIn, IsAfter, IsSent, IsNumbered, Reacts
 use Rattle.discrete_events.proofs.Lists.{or_else, or_else_none, all_in, from_filter, from_map, map_alike, map_map, flat_map_map}
 use Rattle.discrete_events.specs.KeyTimes.{earlier_less}
 use Rattle.discrete_events.proofs.Keys.{upto_both, upto_less, less_trans}
-use Rattle.discrete_events.proofs.Queues.{Queue, same_queue, get_placed, get_to_node, get_together, last_of, last_of_filter, last_is_in, last_where, last_of_append, first_of}
+use Rattle.discrete_events.specs.Theorems.{AreNew}
+use Rattle.discrete_events.proofs.Sequences.{RiseBetween, numbered_rise, rise_within, rise_apart, new_of_apart}
+use Rattle.discrete_events.proofs.Queues.{Queue, pends_not, same_queue, get_placed, get_to_node, get_together, last_of, last_of_filter, last_is_in, last_where, last_of_append, first_of}
 use Rattle.discrete_events.proofs.Events.{IsEventOf, IsEventBelow, counts_time, counts_unspent, counts_for, event_is, event_in, event_to, least_in, least_upto, least_some}
 use Rattle.discrete_events.proofs.Stations.{taken_alike, from_placed, left_over, left_alone, reacts, goes_on}
 use Rattle.discrete_events.proofs.FreeRuns.{IsLate, with_late, IsRunOf, counts_and_is, late_passes, run_of, begins}
@@ -70,6 +72,7 @@ module _ {S X : Type 0} (sim : Simulation S X) (IsSound : S → Type 0) (Fits : 
     fitting = λ q v e. st.fitting q v (to_node_is pending number q v e).0;
     no_past = λ q v e. st.no_past q v (to_node_is pending number q v e).0;
     step = st.step;
+    numbered = λ q v e. st.numbered q v (to_node_is pending number q v e).0;
   }
 
   widened : (pending : Queue X) (number : ℕ) (node : S) (key : Key) (event : Event X) → IsEventOf sim (to_node pending number) node key event → IsEventOf sim pending node key event
@@ -230,6 +233,20 @@ module _ {S X : Type 0} (sim : Simulation S X) (IsSound : S → Type 0) (Fits : 
         by (inl h) = inl h
         by (inr h) = inr (left_over sim IsSound Fits laws pending at.node key event fitting at.of_node q v h)
 
+    -- each message that it sends is new
+    pub sends_new : AreNew (taken event pending) (flat_map (sent_by sim key event) nodes)
+    sends_new = subst (AreNew (taken event pending)) (sym all_sent)
+        (new_of_apart (taken event pending) sends (rise_apart _ _ sends rise) (λ m is. pends_not (taken event pending) m.0 (λ there. none m is there.0 there.1)))
+      where
+        rise : RiseBetween (sim.sent at.node) (sim.sent new_node) sends
+        rise = numbered_rise _ _ _ its_reacts.numbered its_reacts.counted
+
+        none : (m : Message X) → IsIn m sends → (v : X) → get (taken event pending) m.0 ≡ Some v → ⊥
+        none m is v e =
+            let before = (stations at.node at.member).numbered m.0 v (left_over sim IsSound Fits laws pending at.node key event fitting at.of_node m.0 v e).0 (sent_is m is).source in
+            let low = (rise_within _ _ sends m rise is).0 in
+            omega arith
+
     pub numbered_after : IsNumbered sim 0 nodes_after
     numbered_after = numbered_map sim (node_after sim key event) 0 nodes
         (by_node (λ n. sim.number (node_after sim key event n) ≡ sim.number n) (ap sim.number node_here ∙ its_reacts.number) (λ other member n. ap sim.number (node_elsewhere other n))) numbered
@@ -280,14 +297,19 @@ module _ {S X : Type 0} (sim : Simulation S X) (IsSound : S → Type 0) (Fits : 
                 who.0 who.1 (subst (λ n. counts_below sim sim.budget n k.time ≡ true) who.2 it.counts) (subst (λ n. IsEventOf sim pending_after n k e) who.2 it.of_node)
 
     module _ (last_below : (n : S) → IsIn n nodes → IsAfter (sim.last n) key) where
-      station_elsewhere : (other : S) → IsIn other nodes → IsStation sim IsSound Fits other pending_after
-      station_elsewhere other member = record {
+      station_elsewhere : (other : S) → IsIn other nodes → sim.number other ≢ sim.number at.node → IsStation sim IsSound Fits other pending_after
+      station_elsewhere other member n = record {
         sound = (stations other member).sound;
         fitting = fitting_after;
         no_past = λ q v e to. by q v to (from_after q v e);
         step = (stations other member).step;
+        numbered = λ q v e from. counted q v from (from_after q v e);
       }
         where
+          counted : (q : Key) (v : X) → q.from ≡ sim.number other → IsIn (q, v) sends ⊎ ((get pending q ≡ Some v) × (q ≢ key)) → q.sequence < sim.sent other
+          counted q v from (inl h) = absurd (n (sym from ∙ (sent_is (q, v) h).source))
+          counted q v from (inr h) = (stations other member).numbered q v h.0 from
+
           by : (q : Key) (v : X) → q.to ≡ sim.number other → IsIn (q, v) sends ⊎ ((get pending q ≡ Some v) × (q ≢ key)) → IsAfter (sim.last other) q
           by q v to (inl h) = after_less (sim.last other) key q (last_below other member) (earlier_less key q (sent_is (q, v) h).later)
           by q v to (inr h) = (stations other member).no_past q v h.0 to
@@ -296,8 +318,8 @@ module _ {S X : Type 0} (sim : Simulation S X) (IsSound : S → Type 0) (Fits : 
       station_of = by_node (λ n. IsStation sim IsSound Fits (node_after sim key event n) pending_after)
           (subst (λ n. IsStation sim IsSound Fits n pending_after) (sym node_here)
           (subst (λ ms. IsStation sim IsSound Fits new_node (placed (taken event pending) ms)) (sym all_sent)
-          (goes_on sim IsSound Fits laws sim.budget nodes pending key event is_least at (stations at.node at.member) (omega arith) sends sent_is)))
-          (λ other member n. subst (λ m. IsStation sim IsSound Fits m pending_after) (sym (node_elsewhere other n)) (station_elsewhere other member))
+          (goes_on sim IsSound Fits laws sim.budget nodes pending key event is_least at (stations at.node at.member) (omega arith) sends (λ m h. h))))
+          (λ other member n. subst (λ m. IsStation sim IsSound Fits m pending_after) (sym (node_elsewhere other n)) (station_elsewhere other member n))
 
       pub stations_after : (n : S) → IsIn n nodes_after → IsStation sim IsSound Fits n pending_after
       stations_after n is = by (from_map (node_after sim key event) n nodes is)

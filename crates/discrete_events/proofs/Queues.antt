@@ -155,6 +155,17 @@ module _ {X : Type 0} where
   pub in_get : (m : Queue X) (x : Message X) → IsIn x (entries m) → get m x.0 ≡ Some x.1
   in_get m x is = get-entries m x.0 ∙ in_find x (entries m) (entries_sorted m) is
 
+  -- something is pending under a key
+  abbrev pub Pends : Queue X → Key → Type 0
+  Pends queue q = (v : X) × (get queue q ≡ Some v)
+
+  pub pends_not : (queue : Queue X) (q : Key) → (Pends queue q → ⊥) → get queue q ≡ None
+  pends_not queue q not = by (get queue q) refl
+    where
+      by : (o : Option X) → get queue q ≡ o → o ≡ None
+      by None e = refl
+      by (Some v) e = absurd (not (v, e))
+
   entries_of_nothing : (es : List (Message X)) → ((m : Message X) → IsIn m es → ⊥) → es ≡ []
   entries_of_nothing [] none = refl
   entries_of_nothing (m ∷ ms) none = absurd (none m (inl refl))

@@ -10,10 +10,11 @@ use Rattle.discrete_events.specs.Simulation.{Simulation, Event, Step, Arrival, M
 use Rattle.discrete_events.specs.World.{events_below, least}
 use Rattle.discrete_events.specs.Serial.{placed, taken}
 use Rattle.discrete_events.specs.Laws.{IsIn, IsAfter, IsItsOwn, IsDue, IsSent, Reacts, IsSimulation, IsStation}
-use Rattle.discrete_events.proofs.Lists.{or_else}
+use Rattle.discrete_events.proofs.Lists.{all_in, or_else}
 use Rattle.discrete_events.specs.KeyTimes.{earlier_less}
 use Rattle.discrete_events.proofs.Keys.{IsUpTo, upto_time, upto_less, same_key, isnt_key}
 use Rattle.discrete_events.proofs.Queues.{Queue, get_placed, last_of, last_is_in}
+use Rattle.discrete_events.proofs.Sequences.{numbered_rise, rise_within}
 use Rattle.discrete_events.proofs.Events.{IsEventOf, IsEventBelow, counts_time, counts_unspent, counts_for, event_in, least_upto}
 
 pub lt_or_le : (a b : ℕ) → (a < b) ⊎ (b ≤ a)
@@ -104,16 +105,26 @@ module _ {S X : Type 0} (sim : Simulation S X) (IsSound : S → Type 0) (Fits : 
     reacts within = laws.reacts at.node key event st.sound (due within)
 
     -- after the event, with some of what it sent
-    pub goes_on : until ≤ sim.budget → (ms : List (Message X)) → ((m : Message X) → IsIn m ms → IsSent sim Fits at.node key m) → Station (sim.react at.node event).0 (placed (taken event pending) ms)
-    goes_on within ms sent = record {
+    pub goes_on : until ≤ sim.budget → (ms : List (Message X)) → ((m : Message X) → IsIn m ms → IsIn m (sim.react at.node event).1) → Station (sim.react at.node event).0 (placed (taken event pending) ms)
+    goes_on within ms among = record {
       sound = r.sound;
       fitting = λ q v e. fitting q v (from_placed (taken event pending) ms q v e);
       no_past = λ q v e to. subst (λ last. IsAfter last q) (sym r.last) (above q v (to ∙ r.number) (from_placed (taken event pending) ms q v e));
       step = λ time next. subst (λ last. IsAfter last (step_key sim (sim.react at.node event).0 time)) (sym r.last) (r.next time next);
+      numbered = λ q v e from. numbered q v (from ∙ r.number) (from_placed (taken event pending) ms q v e);
     }
       where
         r : Reacts sim IsSound Fits at.node key (sim.react at.node event).0 (sim.react at.node event).1
         r = reacts within
+
+        sent : (m : Message X) → IsIn m ms → IsSent sim Fits at.node key m
+        sent m h = all_in (IsSent sim Fits at.node key) m (sim.react at.node event).1 r.sent (among m h)
+
+        numbered : (q : Key) (v : X) → q.from ≡ sim.number at.node → IsIn (q, v) ms ⊎ (get (taken event pending) q ≡ Some v) → q.sequence < sim.sent (sim.react at.node event).0
+        numbered q v from (inl h) = (rise_within (sim.sent at.node) (sim.sent (sim.react at.node event).0) (sim.react at.node event).1 (q, v) (numbered_rise _ _ _ r.numbered r.counted) (among (q, v) h)).1
+        numbered q v from (inr h) =
+            let before = st.numbered q v (left_over pending at.node key event st.fitting at.of_node q v h).0 from in
+            let more = r.counted in omega arith
 
         fitting : (q : Key) (v : X) → IsIn (q, v) ms ⊎ (get (taken event pending) q ≡ Some v) → Fits (q, v)
         fitting q v (inl h) = (sent (q, v) h).fits

@@ -128,6 +128,7 @@ module _ {S X : Type 0} (sim : Simulation S X) (IsSound : S → Type 0) (Fits : 
         fitting = λ key body there. absurd (none key body there);
         no_past = λ key body there. absurd (none key body there);
         step = λ time next. after_none node m (step_key sim node time);
+        numbered = λ key body there. absurd (none key body there);
       };
       rising = λ node key event m e. after_none node m key;
     },

@@ -45,11 +45,15 @@ world_of_core core = record {
 abbrev pub opening : {S X : Type 0} → Simulation S X → World S X → Option ℕ
 opening sim world = option_map (λ event. quantum_end sim event.0.time) (least (events_in sim world))
 
+-- a node of a world, with the messages to it
+abbrev pub station_in : {S X : Type 0} → Simulation S X → World S X → S → Station S X
+station_in sim world node = record { node = node; pending = to_node world.pending (sim.number node); until = world.kept_end }
+
 -- The core at rest of a world: each node has its messages, a quantum is open where there is an
 -- event, nobody is done, and nothing was sent or deposited.
 abbrev pub core_of : {S X : Type 0} → Simulation S X → World S X → Core S X
 core_of sim world = record {
-  stations = map (λ node. record { node = node; pending = to_node world.pending (sim.number node); until = world.kept_end }) world.nodes;
+  stations = map (station_in sim world) world.nodes;
   kept_end = world.kept_end;
   quanta = world.quanta;
   until = opening sim world;
@@ -82,9 +86,22 @@ IsEnabled sim core Turn =
     IsOpen core × ((node : ℕ) → node < sim.nodes → core.done node ≡ true)
     × ((from to : ℕ) → from < sim.nodes → to < sim.nodes → core.out from to ≡ [])
 
+-- the messages of a source among some
+abbrev pub part_from : {X : Type 0} → ℕ → List (Message X) → List (Message X)
+part_from number messages = filter (λ message. message.0.from == number) messages
+
 -- the messages to a node among some
 abbrev pub part_to : {X : Type 0} → ℕ → List (Message X) → List (Message X)
 part_to number messages = filter (λ message. message.0.to == number) messages
+
+-- what a node of a world sends to others in a quantum
+abbrev pub quantum_outs : {S X : Type 0} → Simulation S X → ℕ → World S X → S → List (Message X)
+quantum_outs sim until world node = (local sim until node (to_node world.pending (sim.number node))).outs
+
+-- and to one of them, by their numbers
+abbrev pub sent_to : {S X : Type 0} → Simulation S X → ℕ → World S X → ℕ → ℕ → List (Message X)
+sent_to sim until world from to =
+    part_to to (flat_map (λ node. if sim.number node == from then quantum_outs sim until world node else []) world.nodes)
 
 abbrev pub is_at : {S X : Type 0} → Simulation S X → ℕ → Station S X → Bool
 is_at sim number station = sim.number station.node == number
@@ -108,9 +125,13 @@ after_deposit from to core = record core {
 abbrev pub reopened : {S X : Type 0} → Simulation S X → Core S X → Core S X
 reopened sim core = record core { until = opening sim (world_of_core core) }
 
--- a station once its inbox is placed among its pending messages
+-- a station once some messages are placed among its pending ones
+abbrev pub with_messages : {S X : Type 0} → List (Message X) → Station S X → Station S X
+with_messages messages station = record station { pending = placed station.pending messages }
+
+-- and once those of its inbox are
 abbrev pub with_inbox : {S X : Type 0} → Simulation S X → (ℕ → List (Message X)) → Station S X → Station S X
-with_inbox sim inbox station = record station { pending = placed station.pending (inbox (sim.number station.node)) }
+with_inbox sim inbox station = with_messages (inbox (sim.number station.node)) station
 
 -- What was deposited is placed among the pending messages, and the next quantum is opened.
 abbrev pub after_turn : {S X : Type 0} → Simulation S X → ℕ → Core S X → Core S X

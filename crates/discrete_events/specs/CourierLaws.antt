@@ -26,6 +26,8 @@ module _ (quantum delay : ℕ) (slow : 3 ≤ delay) where
         tt,
       ),
     );
+    counted = refl;
+    numbered = (omega arith, (refl, tt));
   }
     where
       time : unwrap_or courier.next 0 ≡ key.time
@@ -39,6 +41,8 @@ module _ (quantum delay : ℕ) (slow : 3 ≤ delay) where
     last = ap Some (sym due.its_own.0);
     next = λ time is. before_step sim (courier_reacts delay courier (Arrival message)).0 key time (due.its_own.3 time is) due.its_own.1 (subst (λ (k : Key). k.from < 2) (sym due.its_own.0) due.its_own.2.from);
     sent = tt;
+    counted = omega arith;
+    numbered = tt;
   }
 
   courier_laws : IsSimulation sim IsCourier FitsCouriers

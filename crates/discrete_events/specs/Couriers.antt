@@ -38,6 +38,7 @@ couriers quantum delay = record {
   number = λ courier. courier.number;
   handled = λ courier. courier.handled;
   last = λ courier. courier.last;
+  sent = λ courier. courier.sent;
   next = λ courier. courier.next;
   react = courier_reacts delay;
 }

@@ -1,5 +1,5 @@
 -- What the theorems ask of a simulation, and of a world of it. Own.
-use Rattle.std.specs.Prelude.{◌≡◌, ◌≢◌, ℕ, suc, ◌+◌, ◌≤◌, ◌<◌, ◌⊎◌, List, [], ◌∷◌, Option, Some, None, sum_by}
+use Rattle.std.specs.Prelude.{◌≡◌, ◌≢◌, ℕ, suc, ◌+◌, ◌≤◌, ◌<◌, ◌⊎◌, List, [], ◌∷◌, length, Option, Some, None, sum_by}
 use Rattle.std.specs.List.{AllByRecursion}
 use Rattle.std.specs.declared.cmp.Ordering.TheVariants.{Less}
 use Rattle.std.specs.FinMap.{FinMap, get, empty}
@@ -39,7 +39,13 @@ pub record IsSent {S X : Type 0} (sim : Simulation S X) (Fits : Message X → Ty
   pub later : key.time < message.0.time
   pub late : (message.0.to ≢ sim.number node) → key.time + sim.lookahead ≤ message.0.time
 
--- what a node does at an event
+-- Messages have the numbers from one on as their sequences.
+abbrev pub AreInSequence : {X : Type 0} → ℕ → List (Message X) → Type 0
+AreInSequence sequence [] = Unit {0}
+AreInSequence sequence (message ∷ messages) =
+    (message.0.sequence ≡ sequence) × AreInSequence (sequence + 1) messages
+
+-- What a node does at an event. Its sends go on with the numbers of those before.
 pub record Reacts {S X : Type 0} (sim : Simulation S X) (IsSound : S → Type 0) (Fits : Message X → Type 0) (node : S) (key : Key) (new : S) (sends : List (Message X)) : Type 0 where
   pub sound : IsSound new
   pub number : sim.number new ≡ sim.number node
@@ -47,6 +53,8 @@ pub record Reacts {S X : Type 0} (sim : Simulation S X) (IsSound : S → Type 0)
   pub last : sim.last new ≡ Some key
   pub next : (time : ℕ) → sim.next new ≡ Some time → key_cmp key (step_key sim new time) ≡ Less
   pub sent : AllByRecursion (IsSent sim Fits node key) sends
+  pub counted : sim.sent new ≡ sim.sent node + length sends
+  pub numbered : AreInSequence (sim.sent node) sends
 
 -- The laws of a simulation: what its nodes keep, what fits, and how a sound node reacts to an event
 -- that is due.
@@ -68,12 +76,13 @@ IsNumbered sim from [] = from ≡ sim.nodes
 IsNumbered sim from (node ∷ nodes) = (sim.number node ≡ from) × IsNumbered sim (suc from) nodes
 
 -- A sound node with messages that fit, none of which, and no next step, is at or before the last
--- event it handled.
+-- event it handled. Those that it sent itself are among the ones that it has numbered.
 pub record IsStation {S X : Type 0} (sim : Simulation S X) (IsSound : S → Type 0) (Fits : Message X → Type 0) (node : S) (pending : FinMap key_cmp X) : Type 0 where
   pub sound : IsSound node
   pub fitting : (key : Key) (body : X) → get pending key ≡ Some body → Fits (key, body)
   pub no_past : (key : Key) (body : X) → get pending key ≡ Some body → key.to ≡ sim.number node → IsAfter (sim.last node) key
   pub step : (time : ℕ) → sim.next node ≡ Some time → IsAfter (sim.last node) (step_key sim node time)
+  pub numbered : (key : Key) (body : X) → get pending key ≡ Some body → key.from ≡ sim.number node → key.sequence < sim.sent node
 
 -- A world that a simulation may come to: no event that is due is at or before one that a node has
 -- handled.

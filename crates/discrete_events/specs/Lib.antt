@@ -5,6 +5,7 @@ pub mod Round
 pub mod Core
 pub mod Laws
 pub mod Theorems
+pub mod Merges
 pub mod KeyTimes
 pub mod Couriers
 pub mod CourierLaws

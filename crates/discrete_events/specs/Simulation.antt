@@ -27,6 +27,8 @@ pub record Simulation (S X : Type 0) : Type 0 where
   -- the events that a node has handled, and the key of the last one
   pub handled : S → ℕ
   pub last : S → Option Key
+  -- how many messages a node has sent
+  pub sent : S → ℕ
   -- when a node's next step begins, where its processor runs
   pub next : S → Option ℕ
   -- the node after an event, and the messages that it sends, in order of sending

@@ -1,15 +1,21 @@
 -- What is proved of every simulation that keeps the laws. Own.
-use Rattle.std.specs.Prelude.{◌≡◌, ◌≢◌, ℕ, ◌+◌, ◌≤◌, ◌<◌, Bool, List, [], ◌∷◌, map, Some, None, if◌then◌else◌}
+use Rattle.std.specs.Prelude.{◌≡◌, ◌≢◌, ℕ, ◌+◌, ◌≤◌, ◌<◌, Bool, List, [], ◌∷◌, ◌++◌, map, flat_map, Some, None, if◌then◌else◌}
 use Rattle.std.specs.declared.cmp.Ordering.TheVariants.{Less}
 use Rattle.std.specs.FinMap.{FinMap, get, insert}
 use Rattle.wt_proto.specs.declared.key.Key.{Key}
 use Rattle.wt_proto.specs.KeyOrder.{key_cmp}
 use Rattle.discrete_events.specs.Simulation.{Simulation, Event, Message}
-use Rattle.discrete_events.specs.World.{World, events_in, least}
-use Rattle.discrete_events.specs.Serial.{serial_step, serial, final}
-use Rattle.discrete_events.specs.Round.{FreeRun, local, round, quantum_end, rounds}
-use Rattle.discrete_events.specs.Core.{Station, Core, CoreStep, IsAtRest, world_of_core, opening, core_of, core_run, AreEnabled}
+use Rattle.discrete_events.specs.World.{World, events_below, events_in, least}
+use Rattle.discrete_events.specs.Serial.{taken, sent_by, serial_step, serial, final}
+use Rattle.discrete_events.specs.Round.{FreeRun, to_itself, local, runs_to, together, round, quantum_end, rounds}
+use Rattle.discrete_events.specs.Core.{Station, Core, CoreStep, IsAtRest, part_from, sent_to, world_of_core, opening, core_of, core_run, AreEnabled}
 use Rattle.discrete_events.specs.Laws.{IsIn, IsAfter, IsNumbered, IsStation, IsStart, IsWorld, IsConservative, IsBetweenQuanta, IsSerialFrom}
+
+-- messages that are placed one after the other, each under a key that isn't pending then
+abbrev pub AreNew : {X : Type 0} → FinMap key_cmp X → List (Message X) → Type 0
+AreNew pending [] = Unit {0}
+AreNew pending (message ∷ messages) =
+    (get pending message.0 ≡ None) × AreNew (insert pending message.0 message.1) messages
 
 -- a run with one more message left pending
 abbrev pub with_pending : {S X : Type 0} → Message X → FreeRun S X → FreeRun S X
@@ -84,6 +90,19 @@ NoPastOfRun {S} {X} sim IsSound Fits =
     (until : ℕ) (node : S) (pending : FinMap key_cmp X) → until ≤ sim.budget → IsStation sim IsSound Fits node pending →
     IsStation sim IsSound Fits (local sim until node pending).node (local sim until node pending).pending
 
+-- Each source numbers its sends, so no message is placed under the key of one that is pending: neither what an event
+-- of the serial run sends, nor what a node sends to itself in its own run, nor what the nodes exchange in a round.
+pub record KeysAreNew {S X : Type 0} (sim : Simulation S X) (IsSound : S → Type 0) (Fits : Message X → Type 0) : Type 0 where
+  pub events : (world : World S X) (key : Key) (event : Event X) → IsWorld sim IsSound Fits world → least (events_in sim world) ≡ Some (key, event) →
+      AreNew (taken event world.pending) (flat_map (sent_by sim key event) world.nodes)
+  pub runs : (until : ℕ) (node : S) (pending : FinMap key_cmp X) (key : Key) (event : Event X) →
+      until ≤ sim.budget → IsStation sim IsSound Fits node pending →
+      least (events_below sim until (node ∷ []) pending) ≡ Some (key, event) →
+      AreNew (taken event pending) (to_itself sim node (sim.react node event).1)
+  pub rounds : (until : ℕ) (world : World S X) → until ≤ sim.budget → IsWorld sim IsSound Fits world →
+      AreNew (together (map (λ run. run.pending) (runs_to sim until world.nodes world.pending)))
+      (flat_map (λ run. run.outs) (runs_to sim until world.nodes world.pending))
+
 -- The keys of the events handled rise strictly along the serial run.
 abbrev pub KeysRise : {S X : Type 0} → Simulation S X → (S → Type 0) → (Message X → Type 0) → Type 0
 KeysRise {S} {X} sim IsSound Fits =
@@ -103,22 +122,39 @@ picked sim done [] others = []
 picked sim done (node ∷ nodes) [] = []
 picked sim done (node ∷ nodes) (other ∷ others) = (if done (sim.number node) then other else node) ∷ picked sim done nodes others
 
+-- A message on its way to a node, in a core whose quantum ends at a time: it fits, is to that node and from another,
+-- comes no earlier than that end and after all that the node has handled, and under a key that isn't pending there.
+pub record IsUnderWay {S X : Type 0} (sim : Simulation S X) (Fits : Message X → Type 0) (until : ℕ) (core : Core S X) (to : ℕ) (message : Message X) : Type 0 where
+  pub fits : Fits message
+  pub names : message.0.to ≡ to
+  pub away : message.0.from ≢ to
+  pub late : until ≤ message.0.time
+  pub no_past : (station : Station S X) → IsIn station core.stations → sim.number station.node ≡ to →
+      IsAfter (sim.last station.node) message.0
+  pub new : (station : Station S X) → IsIn station core.stations → sim.number station.node ≡ to →
+      get station.pending message.0 ≡ None
+
 -- A core in the middle of a quantum: a node that isn't done is as in the world in which the quantum
--- was opened, one that is done as in the world in which it ends; and what is under way comes no
--- earlier than that end, and after all that its node has handled.
-pub record IsAmidQuantum {S X : Type 0} (sim : Simulation S X) (begun : World S X) (until : ℕ) (core : Core S X) : Type 0 where
+-- was opened, one that is done as in the world in which it ends. What was deposited and what waits
+-- to be is under way, each inbox could be placed, and of each source it is the first part of what
+-- that one sent.
+pub record IsAmidQuantum {S X : Type 0} (sim : Simulation S X) (Fits : Message X → Type 0) (begun : World S X) (until : ℕ) (core : Core S X) : Type 0 where
   pub ended : World S X
   pub serial : IsSerialFrom sim begun ended
   pub ends : ended.kept_end ≡ until
   pub none_left : IsBetweenQuanta sim ended
   pub nodes : map (λ station. station.node) core.stations ≡ picked sim core.done begun.nodes ended.nodes
-  pub late : (from to : ℕ) (message : Message X) → IsIn message (core.out from to) → until ≤ message.0.time
-  pub no_past : (from to : ℕ) (message : Message X) (station : Station S X) → IsIn message (core.out from to) →
-      IsIn station core.stations → sim.number station.node ≡ to → IsAfter (sim.last station.node) message.0
+  pub ran : (station : Station S X) → IsIn station core.stations → station.until ≤ until
+  pub outs : (from to : ℕ) (message : Message X) → IsIn message (core.out from to) → IsUnderWay sim Fits until core to message
+  pub sources : (from to : ℕ) (message : Message X) → IsIn message (core.out from to) → message.0.from ≡ from
+  pub inboxes : (to : ℕ) (message : Message X) → IsIn message (core.inbox to) → IsUnderWay sim Fits until core to message
+  pub new : (station : Station S X) → IsIn station core.stations → AreNew station.pending (core.inbox (sim.number station.node))
+  pub parts : (from to : ℕ) →
+      part_from from (core.inbox to) ++ core.out from to ≡ (if core.done from then sent_to sim until begun from to else [])
 
 -- A core after some steps from the core of a world. At rest it is the core of a world of the serial
 -- run, in which no event is below the kept end.
-pub record IsAmid {S X : Type 0} (sim : Simulation S X) (world : World S X) (core : Core S X) : Type 0 where
+pub record IsAmid {S X : Type 0} (sim : Simulation S X) (Fits : Message X → Type 0) (world : World S X) (core : Core S X) : Type 0 where
   pub begun : World S X
   pub serial : IsSerialFrom sim world begun
   pub none_left : IsBetweenQuanta sim begun
@@ -126,14 +162,14 @@ pub record IsAmid {S X : Type 0} (sim : Simulation S X) (world : World S X) (cor
   pub until : core.until ≡ opening sim begun
   pub rest : IsAtRest core → core ≡ core_of sim begun
   pub ends : core.until ≡ None → begun ≡ final sim world
-  pub amid : (until : ℕ) → core.until ≡ Some until → IsAmidQuantum sim begun until core
+  pub amid : (until : ℕ) → core.until ≡ Some until → IsAmidQuantum sim Fits begun until core
 
 -- Every interleaving of quanta, deposits and turns comes to the serial run.
 abbrev pub EveryInterleaving : {S X : Type 0} → Simulation S X → (S → Type 0) → (Message X → Type 0) → Type 0
 EveryInterleaving {S} {X} sim IsSound Fits =
     IsConservative sim → (world : World S X) (steps : List CoreStep) →
     IsWorld sim IsSound Fits world → IsBetweenQuanta sim world → AreEnabled sim (core_of sim world) steps →
-    IsAmid sim world (core_run sim steps (core_of sim world))
+    IsAmid sim Fits world (core_run sim steps (core_of sim world))
 
 -- A core at rest, whose stations have messages to themselves alone and ran up to the kept end, and
 -- whose quantum is that of its world.

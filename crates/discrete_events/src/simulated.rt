@@ -1,6 +1,7 @@
 ghost use Rattle.discrete_events.specs.Simulation.{Simulation, Message};
 ghost use Rattle.discrete_events.specs.Laws.{IsSimulation};
-ghost use Rattle.discrete_events.specs.Theorems.{LateMessagePasses, LeastEventPeels, RoundIsSerial, RoundsAreSerial, SerialRunEnds, NoPast, NoPastOfRun, KeysRise, StartIsWorld, EveryInterleaving, StandsFor};
+ghost use Rattle.discrete_events.specs.Merges.{InOrderIsMerge, MergesAreRounds};
+ghost use Rattle.discrete_events.specs.Theorems.{LateMessagePasses, LeastEventPeels, RoundIsSerial, RoundsAreSerial, SerialRunEnds, NoPast, NoPastOfRun, KeysAreNew, KeysRise, StartIsWorld, EveryInterleaving, StandsFor};
 
 /// A simulation whose node states are the values of a type, and that keeps the laws.
 pub trait Simulated {
@@ -46,6 +47,11 @@ pub fn no_past<T: Simulated>()
     ensures start { StartIsWorld T.simulation T.is_sound T.fits }
 {}
 
+/// No message is placed under the key of one that is pending.
+pub fn keys_are_new<T: Simulated>()
+    ensures { KeysAreNew T.simulation T.is_sound T.fits }
+{}
+
 /// The keys of the events handled rise along the serial run.
 pub fn keys_rise<T: Simulated>()
     ensures { KeysRise T.simulation T.is_sound T.fits }
@@ -55,4 +61,11 @@ pub fn keys_rise<T: Simulated>()
 pub fn every_interleaving<T: Simulated>()
     ensures interleaving { EveryInterleaving T.simulation T.is_sound T.fits }
     ensures stands { StandsFor T.simulation T.is_sound T.fits }
+{}
+
+/// A round in which each node is given what the others sent it, in any order that keeps that of each of them, comes to
+/// the same world.
+pub fn merges_are_rounds<T: Simulated>()
+    ensures any { MergesAreRounds T.simulation T.is_sound T.fits }
+    ensures in_order { InOrderIsMerge T.simulation T.is_sound T.fits }
 {}

@@ -36,5 +36,7 @@ fn theorems_hold_of_the_couriers() {
     serial_run_ends::<Courier>();
     no_past::<Courier>();
     keys_rise::<Courier>();
+    keys_are_new::<Courier>();
     every_interleaving::<Courier>();
+    merges_are_rounds::<Courier>();
 }

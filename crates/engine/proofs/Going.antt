@@ -1,5 +1,5 @@
 -- What the code of a round needs: that its stations may run and exchange, and what it then comes to.
-use Rattle.std.proofs.Common.{◌≡◌, ℕ, ◌+◌, ◌*◌, ◌^◌, ◌<◌, ◌≤◌, List, ◌++◌, length, take, map, false, Some, None, refl, ap, sym, ◌∙◌, subst, arith}
+use Rattle.std.proofs.Common.{◌≡◌, ℕ, ◌+◌, ◌*◌, ◌^◌, ◌<◌, ◌≤◌, List, ◌++◌, length, take, false, Some, None, refl, ap, sym, ◌∙◌, subst, arith}
 use Rattle.std.proofs.Math.Seq.{take-append_seam}
 use Rattle.std.specs.List.{All}
 use Rattle.wt_proto.specs.declared.key.Key.{Key}
@@ -13,10 +13,11 @@ use Rattle.node.specs.React.{wind_tunnel}
 use Rattle.quantum.specs.Stations.{StationModel, IsUnbroken as IsWholeStation, machine_of}
 use Rattle.engine.specs.Engine.{EngineModel, IsRunning, world_of}
 use Rattle.engine.specs.Rounds.{IsOver}
-use Rattle.engine.specs.Quantum.{HaveAdvanced, MayExchange, IsGood, earliest_of, ran_to}
-use Rattle.engine.proofs.Places.{all_by, in_all}
+use Rattle.engine.specs.Quantum.{HaveAdvanced, HaveExchanged, MayExchange, earliest_of}
+use Rattle.engine.proofs.Places.{all_by}
 use Rattle.engine.proofs.Owned.{earliest_is, its}
 use Rattle.engine.proofs.Letters.{early, exchanges, forward}
+use Rattle.engine.proofs.Merges.{have_advanced}
 use Rattle.engine.proofs.Quanta.{Done, done, event_at, events_bound, is_final}
 
 module _ (engine : EngineModel) (running : IsRunning engine) where
@@ -68,18 +69,22 @@ module _ (engine : EngineModel) (running : IsRunning engine) where
       where
         each : (key : Key) (event : Event Msg) → least (events_in (wind_tunnel engine.machine) (world_of engine)) ≡ Some (key, event) → HaveAdvanced (quantum_end (wind_tunnel engine.machine) key.time) engine.stations stations → Done engine key.time (after (quantum_end (wind_tunnel engine.machine) key.time) stations)
         each key event is have =
-            done engine running key event is have.letters have.handed_out stations have.delivery
-            (in_all IsGood (map (ran_to (quantum_end (wind_tunnel engine.machine) key.time)) engine.stations) have.good_runs) (in_all IsGood stations have.good)
+            done engine running key event is stations have
+
+    -- An exchange in the order of the stations is by merges.
+    pub exchanged : (stations : List StationModel) → HaveExchanged (quantum_end (wind_tunnel engine.machine) time) engine.stations stations → HaveAdvanced (quantum_end (wind_tunnel engine.machine) time) engine.stations stations
+    exchanged stations = at_time (λ t. HaveExchanged (quantum_end (wind_tunnel engine.machine) t) engine.stations stations → HaveAdvanced (quantum_end (wind_tunnel engine.machine) t) engine.stations stations)
+        (λ key event is have. have_advanced engine running key event is stations have)
 
 -- all of a list is written
 pub written : (n : ℕ) (xs ys : List StationModel) → length xs ≡ n → take n (xs ++ ys) ≡ xs
 written n xs ys e = ap (λ k. take k (xs ++ ys)) (sym e) ∙ take-append_seam xs ys
 
 pub gone_on : (view now : EngineModel) → view ≡ now → IsRunning view → (time until : ℕ) → earliest_of view.stations ≡ Some time → until ≡ quantum_end (wind_tunnel view.machine) time →
-    (new written_to : List StationModel) → HaveAdvanced until view.stations new → written_to ≡ new →
+    (new written_to : List StationModel) → HaveExchanged until view.stations new → written_to ≡ new →
     Done now time (record { machine = view.machine; stations = written_to; kept_end = until; quanta = view.quanta + 1; broken = false })
 gone_on view now same running time until first end new written_to have is =
     subst (λ e. Done e time (record { machine = view.machine; stations = written_to; kept_end = until; quanta = view.quanta + 1; broken = false })) same
     (subst (λ ss. Done view time (record { machine = view.machine; stations = ss; kept_end = until; quanta = view.quanta + 1; broken = false })) (sym is)
     (subst (λ u. Done view time (record { machine = view.machine; stations = new; kept_end = u; quanta = view.quanta + 1; broken = false })) (sym end)
-    (advanced view running time first new (subst (λ u. HaveAdvanced u view.stations new) end have))))
+    (advanced view running time first new (exchanged view running time first new (subst (λ u. HaveExchanged u view.stations new) end have)))))

@@ -14,9 +14,9 @@ use Rattle.discrete_events.specs.Core.{Station, run_to as run_of_station}
 use Rattle.discrete_events.specs.Laws.{IsIn, IsNumbered}
 use Rattle.discrete_events.proofs.Lists.{or_else, in_append, in_map, from_map}
 use Rattle.discrete_events.proofs.Keys.{upto_time}
-use Rattle.discrete_events.proofs.Queues.{first_of, get_together}
+use Rattle.discrete_events.proofs.Queues.{Pends, first_of, get_together}
 use Rattle.discrete_events.proofs.Events.{IsEventBelow, counts_time, event_is, least_in, least_upto}
-use Rattle.discrete_events.proofs.FreeRuns.{IsRunOf, run_of, outs_fit, outs_late}
+use Rattle.discrete_events.proofs.FreeRuns.{IsRunOf, from_before, run_of, outs_fit, outs_late}
 use Rattle.discrete_events.proofs.Numbered.{numbered_from}
 use Rattle.node.specs.declared.state.NodeState.{NodeState}
 use Rattle.node.specs.React.{message_under_key, wind_tunnel}
@@ -27,7 +27,6 @@ use Rattle.quantum.specs.Stations.{StationModel, machine_of, station_of}
 use Rattle.engine.specs.Engine.{EngineModel, IsRunning, all_pending, nodes_of, world_of}
 use Rattle.engine.specs.Quantum.{AreHandedOut, ran_to}
 use Rattle.engine.proofs.Deliveries.{AllRan, AreApart, IsExchange, IsLetter, apart_append, exchange, new_of_apart, queues}
-use Rattle.engine.proofs.Runs.{Pends, from_before}
 use Rattle.engine.proofs.Owned.{get_own, its, laws, member_node, own_in, station_is, wind}
 
 -- ---- rising sequences
@@ -150,7 +149,7 @@ module _ (engine : EngineModel) (running : IsRunning engine) (key : Key) (event 
     pub member : IsIn station engine.stations
     pub to : q.to ≡ station.node.state.number
     pub there : get (ran_to until station).pending q ≡ Some v
-    pub before : Pends (wind_tunnel engine.machine) (IsNode engine.machine) (Fits engine.machine) (laws engine running) until within station.pending q ⊎ (q.from ≡ station.node.state.number)
+    pub before : Pends station.pending q ⊎ (q.from ≡ station.node.state.number)
 
   pub left : (q : Key) (v : Msg) → get (all_pending ran) q ≡ Some v → IsLeft q v
   left q v e = by (found_in ran q v (sym (get_together (queues ran) q) ∙ e))
@@ -176,7 +175,7 @@ module _ (engine : EngineModel) (running : IsRunning engine) (key : Key) (event 
   pub number_kept : (s : StationModel) → IsIn s engine.stations → (ran_to until s).node.state.number ≡ s.node.state.number
   number_kept s member = ap (λ (r : Station NodeState Msg × List (Message Msg)). r.0.node.number) (ran_by s member) ∙ (run_is s member).number
 
-  ran_numbered : (from : ℕ) (xs : List StationModel) → Among xs → IsNumbered sim from (nodes_of xs) → IsNumbered sim from (nodes_of (map (ran_to until) xs))
+  pub ran_numbered : (from : ℕ) (xs : List StationModel) → Among xs → IsNumbered sim from (nodes_of xs) → IsNumbered sim from (nodes_of (map (ran_to until) xs))
   ran_numbered from [] among numbered = numbered
   ran_numbered from (x ∷ xs) among numbered = (number_kept x (among x (inl refl)) ∙ numbered.0, ran_numbered (suc from) xs (λ s h. among s (inr h)) numbered.1)
 
@@ -220,9 +219,9 @@ module _ (engine : EngineModel) (running : IsRunning engine) (key : Key) (event 
         no : (v : Msg) → (s : StationModel) × IsIn s engine.stations × IsSentBy m s → IsLeft (key_of m) v → ⊥
         no v (s, member, sent) left = either left.before
           where
-            either : Pends (wind_tunnel engine.machine) (IsNode engine.machine) (Fits engine.machine) (laws engine running) until within left.station.pending (key_of m) ⊎ (m.from ≡ left.station.node.state.number) → ⊥
+            either : Pends left.station.pending (key_of m) ⊎ (m.from ≡ left.station.node.state.number) → ⊥
             either (inl (w, there)) =
-                let fresh = running.fresh s.node.state (key_of m) w (member_node engine running s member) (get_own engine running left.station left.member (key_of m) left.to ∙ there) sent.source in
+                let fresh = (running.world.stations s.node.state (member_node engine running s member)).numbered (key_of m) w (get_own engine running left.station left.member (key_of m) left.to ∙ there) sent.source in
                 let least = sent.least in absurd (omega arith)
             either (inr e) = let to = left.to in let source = sent.source in sent.away (to ∙ sym e ∙ source)
 

@@ -3,6 +3,7 @@ pub mod Deliveries
 pub mod Runs
 pub mod Owned
 pub mod Letters
+pub mod Merges
 pub mod Quanta
 pub mod Going
 pub mod StartLemmas

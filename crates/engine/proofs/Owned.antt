@@ -87,6 +87,7 @@ module _ (sim : Simulation NodeState Msg) where
     number = λ s. sim.number s.node.state;
     handled = λ s. sim.handled s.node.state;
     last = λ s. sim.last s.node.state;
+    sent = λ s. sim.sent s.node.state;
     next = λ s. sim.next s.node.state;
     react = λ s event. (s, []);
   }

@@ -1,22 +1,10 @@
 -- Stations that have run up to a time, one after the other, and what they hand out.
-use Rattle.std.proofs.Common.{◌≡◌, ℕ, zero, suc, ◌<◌, ◌≤◌, ◌⊎◌, List, [], ◌∷◌, ◌++◌, length, get_or, take, drop, map, Option, Some, None, min, ◌==◌, refl, ap, sym, ◌∙◌, subst, inl, inr, arith, append_assoc}
+use Rattle.std.proofs.Common.{◌≡◌, ℕ, zero, suc, ◌<◌, ◌≤◌, List, [], ◌∷◌, ◌++◌, length, get_or, take, drop, map, Option, Some, None, min, refl, ap, sym, ◌∙◌, subst, arith, append_assoc}
 use Rattle.std.proofs.Math.ListN.{set}
 use Rattle.std.proofs.Math.Seq.{take-suc}
-use Rattle.std.specs.FinMap.{get}
-use Rattle.wt_proto.specs.declared.key.Key.{Key}
 use Rattle.wt_proto.specs.declared.message.Stamped.{Stamped}
 use Rattle.quantum.specs.FreeRuns.{IsHandedOut, run_to_of}
 use Rattle.quantum.specs.Stations.{StationModel, IsLive, IsUnbroken, least_time_of, machine_of, station_of}
-use Rattle.discrete_events.specs.Simulation.{Simulation, Event, Message}
-use Rattle.discrete_events.specs.World.{events_below, least}
-use Rattle.discrete_events.specs.Serial.{placed, taken}
-use Rattle.discrete_events.specs.Round.{to_itself, after_own, free_run}
-use Rattle.discrete_events.specs.Laws.{IsIn, IsSent, Reacts, IsSimulation, IsStation}
-use Rattle.discrete_events.proofs.Lists.{all_in, from_filter}
-use Rattle.discrete_events.proofs.Queues.{Queue}
-use Rattle.discrete_events.proofs.Events.{least_in}
-use Rattle.discrete_events.proofs.Stations.{from_placed, left_over, reacts}
-use Rattle.discrete_events.proofs.FreeRuns.{counts_and_is, own_event, own_station}
 use Rattle.engine.specs.Quantum.{AreHandedOut, earliest_of, ran_to, sooner}
 
 -- ---- the loop over the stations
@@ -82,49 +70,6 @@ earliest_all first zero [] h = sooner_none first
 earliest_all first (suc i) [] h = sooner_none first
 earliest_all first zero (x ∷ xs) h = absurd (omega arith)
 earliest_all first (suc n) (x ∷ xs) h = earliest_all first n xs (omega arith)
-
--- ---- what is pending after a run
-
-module _ {S X : Type 0} (sim : Simulation S X) (IsSound : S → Type 0) (Fits : Message X → Type 0) (laws : IsSimulation sim IsSound Fits) (until : ℕ) (within : until ≤ sim.budget) where
-  -- Something is pending under this key.
-  abbrev pub Pends : Queue X → Key → Type 0
-  Pends queue q = (w : X) × (get queue q ≡ Some w)
-
-  step_before : (n : ℕ) (node : S) (pending : Queue X) → IsStation sim IsSound Fits node pending →
-      ((new : S) (queue : Queue X) → IsStation sim IsSound Fits new queue → (q : Key) → Pends (free_run sim until n new queue).pending q → Pends queue q ⊎ (q.from ≡ sim.number new)) →
-      (o : Option (Key × Event X)) → least (events_below sim until (node ∷ []) pending) ≡ o →
-      (q : Key) → Pends (after_own sim (free_run sim until n) node pending o).pending q → Pends pending q ⊎ (q.from ≡ sim.number node)
-  step_before n node pending st rest None is q h = inl h
-  step_before n node pending st rest (Some e) is q h = either (rest new queue (own_station sim IsSound Fits laws until within node pending e.0 e.1 is st) q h)
-    where
-      new : S
-      new = (sim.react node e.1).0
-
-      own : List (Message X)
-      own = to_itself sim node (sim.react node e.1).1
-
-      queue : Queue X
-      queue = placed (taken e.1 pending) own
-
-      its : Reacts sim IsSound Fits node e.0 (sim.react node e.1).0 (sim.react node e.1).1
-      its = reacts sim IsSound Fits laws until (node ∷ []) pending e.0 e.1 is (own_event sim until node pending e.0 e.1 is) st within
-
-      sent : (w : X) → IsIn (q, w) own → q.from ≡ sim.number node
-      sent w k = (all_in (IsSent sim Fits node e.0) (q, w) (sim.react node e.1).1 its.sent (from_filter (λ (m : Message X). m.0.to == sim.number node) (q, w) (sim.react node e.1).1 k).0).source
-
-      was : (w : X) → IsIn (q, w) own ⊎ (get (taken e.1 pending) q ≡ Some w) → Pends pending q ⊎ (q.from ≡ sim.number node)
-      was w (inl k) = inr (sent w k)
-      was w (inr k) = inl (w, (left_over sim IsSound Fits laws pending node e.0 e.1 st.fitting (counts_and_is sim until node pending e.0 e.1 (least_in _ (e.0, e.1) is)).1 q w k).0)
-
-      either : Pends queue q ⊎ (q.from ≡ sim.number new) → Pends pending q ⊎ (q.from ≡ sim.number node)
-      either (inl (w, k)) = was w (from_placed (taken e.1 pending) own q w k)
-      either (inr k) = inr (k ∙ its.number)
-
-  -- What is pending after a run was so before it, or is from the node itself.
-  pub from_before : (n : ℕ) (node : S) (pending : Queue X) → IsStation sim IsSound Fits node pending → (q : Key) → Pends (free_run sim until n node pending).pending q → Pends pending q ⊎ (q.from ≡ sim.number node)
-  unfolding free_run
-  from_before zero node pending st q = λ h. inl h
-  from_before (suc n) node pending st q = step_before n node pending st (λ new queue. from_before n new queue) (least (events_below sim until (node ∷ []) pending)) refl q
 
 -- ---- one more station has run
 

@@ -1,9 +1,8 @@
 -- An engine of one node, and what it has come to when this node has run to its end.
-use Rattle.std.proofs.Common.{◌≡◌, ◌+◌, ◌<◌, List, [], ◌∷◌, length, get_or, false, Some, Result, Ok, Err, IfOk, OnOk, refl, ap, sym, ◌∙◌, subst, inl, inr, arith}
+use Rattle.std.proofs.Common.{◌≡◌, ◌+◌, ◌<◌, List, [], ◌∷◌, length, get_or, false, Result, Ok, Err, IfOk, OnOk, refl, ap, sym, ◌∙◌, subst, inl, inr, arith}
 use Rattle.std.proofs.Math.ListN.{set}
 use Rattle.std.specs.FinMap.{get}
 use Rattle.wt_params.specs.declared.memory.NoMemory.{NoMemory}
-use Rattle.wt_proto.specs.declared.key.Key.{Key}
 use Rattle.wt_proto.specs.declared.message.Msg.{Msg}
 use Rattle.discrete_events.specs.Simulation.{Simulation}
 use Rattle.discrete_events.specs.Round.{together}
@@ -94,17 +93,12 @@ module _ (engine : EngineModel) (running : IsRunning engine) (station : StationM
       stations = λ s is. each s is;
       world = world_then;
       between = λ key event is. absurd (ends.none_left key event (subst (λ w. IsIn (key, event) (events_in sim w)) alone_end is));
-      fresh = λ node key msg is there from. fresh node key msg is there from;
       counted = let c = running.counted in let n = ran.ended.counted in let e = events_before in omega (arith, c, n, e);
     }
       where
         each : (s : StationModel) → IsIn s (after ∷ []) → IsStationOf engine.machine quanta.kept_end s
         each s (inl is) = subst (IsStationOf engine.machine quanta.kept_end) (sym is) (record { whole = ran.good.whole; machine_is = ran.machine_is ∙ same_machine; live = ran.good.live; ran = ran.ended.until })
         each s (inr none) = absurd none
-
-        fresh : (node : NodeState) (key : Key) (msg : Msg) → IsIn node (after.node.state ∷ []) → get (all_pending (after ∷ [])) key ≡ Some msg → key.from ≡ node.number → key.sequence < node.counters.sent
-        fresh node key msg (inl is) there from = subst (λ (n : NodeState). key.sequence < n.counters.sent) (sym is) (ran.good.live.numbered key msg (ap (λ (queue : Queue Msg). get queue key) (sym (together_one after.pending)) ∙ there) (from ∙ ap (λ (n : NodeState). n.number) is))
-        fresh node key msg (inr none) there from = absurd none
 
 -- ---- by the list of stations
 

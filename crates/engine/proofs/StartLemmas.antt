@@ -1,5 +1,5 @@
 -- An engine at the start.
-use Rattle.std.proofs.Common.{◌≡◌, ℕ, zero, suc, ◌+◌, ◌⊎◌, List, [], ◌∷◌, ◌++◌, map, Bool, false, Some, None, refl, ap, sym, ◌∙◌, subst, inl, inr, arith}
+use Rattle.std.proofs.Common.{◌≡◌, ℕ, zero, suc, ◌+◌, ◌⊎◌, List, [], ◌∷◌, ◌++◌, map, Bool, false, None, refl, ap, sym, ◌∙◌, subst, inl, inr, arith}
 use Rattle.std.specs.List.{range_with_len}
 use Rattle.std.specs.FinMap.{get, empty, get-empty}
 use Rattle.std.proofs.lemmas.List.{map-append}
@@ -115,9 +115,5 @@ module _ (machine : MachineParts) (loaded : LoadedImages) (traced : Bool) where
       stations = all.each;
       world = worlds.0;
       between = worlds.1;
-      fresh = λ node q v member there from. absurd (nothing q v there);
       counted = omega arith;
     }
-      where
-        nothing : (q : Key) (v : Msg) → get (all_pending stations) q ≡ Some v → ⊥
-        nothing q v there = let n : None ≡ Some v = sym (ap (λ (m : Queue Msg). get m q) pending_is ∙ get-empty {X = Msg} key_cmp q) ∙ there in cc

@@ -1,9 +1,8 @@
 -- A machine that goes on quantum by quantum, and the world that it stands for. Own.
-use Rattle.std.specs.Prelude.{◌≡◌, ℕ, ◌<◌, ◌≤◌, Bool, false, List, map, Some}
-use Rattle.std.specs.FinMap.{FinMap, get}
+use Rattle.std.specs.Prelude.{◌≡◌, ℕ, ◌≤◌, Bool, false, List, map}
+use Rattle.std.specs.FinMap.{FinMap}
 use Rattle.wt_params.specs.declared.parts.MachineParts.{MachineParts}
 use Rattle.wt_params.specs.Machine.{IsMachine}
-use Rattle.wt_proto.specs.declared.key.Key.{Key}
 use Rattle.wt_proto.specs.declared.message.Msg.{Msg}
 use Rattle.wt_proto.specs.KeyOrder.{key_cmp}
 use Rattle.discrete_events.specs.Simulation.{Simulation}
@@ -58,19 +57,12 @@ pub record IsStationOf (machine : MachineParts) (until : ℕ) (station : Station
   pub live : IsLive station
   pub ran : station.until ≡ until
 
--- Every message that is pending is among those that its source has numbered.
-abbrev pub AreNumberedSends : World → Type 0
-AreNumberedSends world =
-    (node : NodeState) (key : Key) (msg : Msg) → IsIn node world.nodes → get world.pending key ≡ Some msg →
-    key.from ≡ node.number → key.sequence < node.counters.sent
-
 -- what an engine keeps that isn't broken: it stands for a world of the simulation between two quanta
 pub record IsRunning (engine : EngineModel) : Type 0 where
   pub numbers : IsMachine engine.machine
   pub stations : (station : StationModel) → IsIn station engine.stations → IsStationOf engine.machine engine.kept_end station
   pub world : IsWorld (sim_of engine) (IsNode engine.machine) (Fits engine.machine) (world_of engine)
   pub between : IsBetweenQuanta (sim_of engine) (world_of engine)
-  pub fresh : AreNumberedSends (world_of engine)
   pub counted : engine.quanta ≤ events_so_far engine
 
 abbrev pub IsSoundEngine : EngineModel → Type 0

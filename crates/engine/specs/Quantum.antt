@@ -1,7 +1,12 @@
 -- The parts of a quantum: when the next event is, the runs of the stations, and the exchange of what they sent. Own.
-use Rattle.std.specs.Prelude.{◌≡◌, ⊤, ℕ, suc, zero, min, false, List, [], ◌∷◌, ◌++◌, map, Option, Some, None}
+use Rattle.std.specs.Prelude.{◌≡◌, ⊤, ℕ, ◌<◌, ◌==◌, suc, zero, min, false, List, [], ◌∷◌, ◌++◌, length, map, flat_map, Option, Some, None, if◌then◌else◌}
 use Rattle.std.specs.List.{All}
+use Rattle.wt_proto.specs.declared.message.Msg.{Msg}
 use Rattle.wt_proto.specs.declared.message.Stamped.{Stamped}
+use Rattle.discrete_events.specs.Simulation.{Message}
+use Rattle.discrete_events.specs.Core.{part_to}
+use Rattle.discrete_events.specs.Merges.{IsMerge}
+use Rattle.node.specs.React.{message_under_key}
 use Rattle.quantum.specs.FreeRuns.{IsHandedOut, run_to_of}
 use Rattle.quantum.specs.Stations.{StationModel, IsLive, IsUnbroken, MayAccept, accept_of, least_time_of, machine_of}
 
@@ -67,10 +72,27 @@ abbrev pub MayExchange : ℕ → List StationModel → Type 0
 MayExchange until stations =
     (letters : List Stamped) → AreHandedOut until stations letters → MayDeliver letters (map (ran_to until) stations)
 
--- Stations have run up to a time, and were then given what they have sent to each other.
-pub record HaveAdvanced (until : ℕ) (before after : List StationModel) : Type 0 where
+-- Stations have run up to a time, and were then given what they have sent to each other, in the order of the stations.
+pub record HaveExchanged (until : ℕ) (before after : List StationModel) : Type 0 where
   pub letters : List Stamped
   pub handed_out : AreHandedOut until before letters
   pub good_runs : All IsGood (map (ran_to until) before)
   pub delivery : after ≡ delivered letters (map (ran_to until) before)
+  pub good : All IsGood after
+
+-- what a station hands out to another when they run up to a time, by their numbers
+abbrev pub handed_to : ℕ → List StationModel → ℕ → ℕ → List (Message Msg)
+handed_to until stations from to =
+    part_to to (flat_map (λ station. if station.node.state.number == from then (run_to_of until station).1 else []) stations)
+
+-- a station that was given messages one after the other
+abbrev pub given : List Stamped → StationModel → StationModel
+given [] station = station
+given (letter ∷ letters) station = given letters (accept_of letter station)
+
+-- Stations have run up to a time, and then each was given a merge of what the others have sent it.
+pub record HaveAdvanced (until : ℕ) (before after : List StationModel) : Type 0 where
+  pub letters : ℕ → List Stamped
+  pub merges : (to : ℕ) → to < length before → IsMerge (length before) (λ from. handed_to until before from to) (map message_under_key (letters to))
+  pub delivery : after ≡ map (λ station. given (letters station.node.state.number) (ran_to until station)) before
   pub good : All IsGood after

@@ -1,7 +1,7 @@
 ghost use Rattle.std.specs.Prelude.{◌≡◌, ◌≤◌, ◌++◌, All, map, IfOk, OnOk};
 ghost use Rattle.quantum.specs.Stations.{IsUnbroken, machine_of};
 ghost use Rattle.engine.specs.Sole.{AreSole, HaveEnded};
-ghost use Rattle.engine.specs.Quantum.{AreHandedOut, HaveAdvanced, IsGood, MayDeliver, MayExchange, delivered, earliest_of, ran_to, sooner};
+ghost use Rattle.engine.specs.Quantum.{AreHandedOut, HaveExchanged, IsGood, MayDeliver, MayExchange, delivered, earliest_of, ran_to, sooner};
 
 use event_queue::Steps;
 use quantum::{Outs, Quanta, Station};
@@ -42,7 +42,7 @@ pub fn advance<L: Ledger>(
     requires budget { All (λ station. until ≤ (machine_of station).budget) stations.old }
     requires forward { All (λ station. station.until ≤ until) stations.old }
     requires may { MayExchange until stations.old }
-    ensures { OnOk result (HaveAdvanced until stations.old stations.new) }
+    ensures { OnOk result (HaveExchanged until stations.old stations.new) }
 {
     let letters = run_all(alloc, stations, until, steps)?;
     deliver(stations, letters, steps)

@@ -22,7 +22,7 @@ use Rattle.wt_trace.specs.declared.record.What.{What}
 use Rattle.wt_trace.specs.EventLine.{WhatFits, RecordFits}
 use Rattle.discrete_events.specs.Simulation.{Event, Step, Arrival, Message, step_key}
 use Rattle.discrete_events.specs.KeyTimes.{earlier_less, before_step}
-use Rattle.discrete_events.specs.Laws.{IsDue, IsSent, Reacts, IsSimulation}
+use Rattle.discrete_events.specs.Laws.{IsDue, IsSent, AreInSequence, Reacts, IsSimulation}
 use Rattle.node.specs.declared.state.NodeState.{NodeState}
 use Rattle.node.specs.declared.state.Course.{Course}
 use Rattle.node.specs.declared.state.Send.{Send}
@@ -218,6 +218,15 @@ all_sent machine node key from sequence (send ∷ rest) is source there fits =
       all_sent machine node key from (sequence + 1) rest is source there (λ k d below. fits (suc k) d (omega arith)),
     )
 
+-- the sends have the numbers from that of the sends so far on
+in_sequence : (machine : MachineParts) (from sequence : ℕ) (sends : List Send) → AreInSequence sequence (map message_under_key (stamped_from machine from sequence sends))
+in_sequence machine from sequence [] = tt
+in_sequence machine from sequence (send ∷ sends) = (refl, in_sequence machine from (sequence + 1) sends)
+
+sends_length : (machine : MachineParts) (from sequence : ℕ) (sends : List Send) → length (map message_under_key (stamped_from machine from sequence sends)) ≡ length sends
+sends_length machine from sequence [] = refl
+sends_length machine from sequence (send ∷ sends) = ap suc (sends_length machine from (sequence + 1) sends)
+
 -- ---- the laws
 
 module _ (machine : MachineParts) (numbers : IsMachine machine) (old : NodeState) (is : IsNode machine old) (unspent : events_of old < machine.event_limit) where
@@ -228,16 +237,18 @@ module _ (machine : MachineParts) (numbers : IsMachine machine) (old : NodeState
   message_room = let sent = is.counts.sent in grind arith
 
   -- what an event leaves and sends keeps the laws
-  reacts_with : (time least : ℕ) (begun : NodeState) (key : Key) (what : What) (handled : Handled) → Went machine time least begun handled → key.time ≡ time → begun.number ≡ old.number → begun.last ≡ Some key → events_of begun ≡ suc (events_of old) → WhatFits machine what →
+  reacts_with : (time least : ℕ) (begun : NodeState) (key : Key) (what : What) (handled : Handled) → Went machine time least begun handled → key.time ≡ time → begun.number ≡ old.number → begun.last ≡ Some key → begun.counters.sent ≡ old.counters.sent → events_of begun ≡ suc (events_of old) → WhatFits machine what →
       begun.counters.sent + (machine.nodes + 1) ≤ (machine.nodes + 1) * (begun.counters.steps + begun.counters.messages) → ((next : ℕ) → least ≤ next → key_cmp key (step_key (wind_tunnel machine) old next) ≡ Less) →
       Reacts (wind_tunnel machine) (IsNode machine) (Fits machine) old key (react_with machine key what handled).0 (map message_under_key (react_with machine key what handled).1)
-  reacts_with time least begun key what handled went at number last events its_own room below = record {
+  reacts_with time least begun key what handled went at number last sent events its_own room below = record {
     sound = ended_is_node machine time least begun key what handled went room its_own;
     number = went.still.number ∙ number;
     handled = let steps = went.still.steps in let messages = went.still.messages in omega (arith, events);
     last = went.still.last ∙ last;
     next = λ next e. subst (λ (n : ℕ). key_cmp key (record { time = next; to = n; from = machine.nodes; sequence = 0 }) ≡ Less) (sym (went.still.number ∙ number)) (below next (went.later next e));
     sent = all_sent machine old key handled.node.number handled.node.counters.sent handled.sends numbers (went.still.number ∙ number) went.sound.number (rw at went.sends);
+    counted = let same : handled.node.counters.sent ≡ old.counters.sent = went.still.sent ∙ sent in let size = sends_length machine handled.node.number handled.node.counters.sent handled.sends in omega (arith, same, size);
+    numbered = subst (λ (n : ℕ). AreInSequence n (map message_under_key (sends_of machine handled))) (went.still.sent ∙ sent) (in_sequence machine handled.node.number handled.node.counters.sent handled.sends);
   }
 
 runs : (mode : Mode) (time next : ℕ) → step_in mode time ≡ Some next → mode ≡ Running
@@ -253,7 +264,7 @@ module _ (machine : MachineParts) (numbers : IsMachine machine) where
   steps node key is due =
       subst (λ (k : Key). Reacts (wind_tunnel machine) (IsNode machine) (Fits machine) node k (react_to_step machine node).0 (map message_under_key (react_to_step machine node).1)) (sym its_key)
       (reacts_with machine numbers node is due.unspent (step_time node) (suc (step_time node)) (counted_step (next_key machine node) node) (next_key machine node) _ _
-      (step_went machine node is due.unspent running (let e = due.early in let most = numbers.budget.at_most in omega (arith, at)) (next_key machine node)) refl refl refl (omega arith) tt (sent_room machine numbers node is due.unspent)
+      (step_went machine node is due.unspent running (let e = due.early in let most = numbers.budget.at_most in omega (arith, at)) (next_key machine node)) refl refl refl refl (omega arith) tt (sent_room machine numbers node is due.unspent)
       (λ next later. earlier_less (next_key machine node) (step_key (wind_tunnel machine) node next) (omega arith)))
     where
       at : step_time node ≡ key.time
@@ -272,7 +283,7 @@ module _ (machine : MachineParts) (numbers : IsMachine machine) where
       subst (λ (k : Key). Reacts (wind_tunnel machine) (IsNode machine) (Fits machine) node k (react_to_message machine node message.0 message.1).0 (map message_under_key (react_to_message machine node message.0 message.1).1)) (sym due.its_own.0)
       (reacts_with machine numbers node is due.unspent message.0.time message.0.time (counted_message message.0 node) message.0 _ _
       (message_went machine node is due.unspent message.0.time message.0.from message.1 message.0 (let e = due.early in let most = numbers.budget.at_most in omega (arith, ap (λ (k : Key). k.time) due.its_own.0)) due.its_own.2.from due.its_own.2.msg
-      (λ next e. subst (λ (k : Key). k.time ≤ next) due.its_own.0 (due.its_own.3 next e))) refl refl refl (omega arith) due.its_own.2.msg (message_room machine numbers node is due.unspent)
+      (λ next e. subst (λ (k : Key). k.time ≤ next) due.its_own.0 (due.its_own.3 next e))) refl refl refl refl (omega arith) due.its_own.2.msg (message_room machine numbers node is due.unspent)
       (λ next later. before_step (wind_tunnel machine) node message.0 next later (ap (λ (k : Key). k.to) (sym due.its_own.0) ∙ due.its_own.1) due.its_own.2.from))
 
   laws : IsSimulation (wind_tunnel machine) (IsNode machine) (Fits machine)

@@ -144,6 +144,7 @@ wind_tunnel machine = record {
   number = λ node. node.number;
   handled = events_of;
   last = λ node. node.last;
+  sent = λ node. node.counters.sent;
   next = next_step_of;
   react = λ node event. ((react machine node event).0, map message_under_key (react machine node event).1);
 }

@@ -36,9 +36,9 @@ accepted message station is may = record {
     fitting = λ key msg there. fitting key msg (known key msg there);
     no_past = λ key msg there to. after key msg to (known key msg there);
     step = is.sound.step;
+    numbered = λ key msg there from. numbered key msg from (known key msg there);
   };
   own = λ key msg there. own key msg (known key msg there);
-  numbered = λ key msg there from. numbered key msg from (known key msg there);
   ran = is.ran;
 }
   where
@@ -63,7 +63,7 @@ accepted message station is may = record {
     numbered : (key : Key) (msg : Msg) → key.from ≡ station.node.state.number → IsIn (key, msg) (message_under_key message ∷ []) ⊎ (get station.pending key ≡ Some msg) → key.sequence < station.node.state.counters.sent
     numbered key msg from (inl (inl same)) = absurd (may.away (sym (ap (λ (m : Message Msg). m.0.from) same) ∙ from))
     numbered key msg from (inl (inr none)) = absurd none
-    numbered key msg from (inr old) = is.numbered key msg old from
+    numbered key msg from (inr old) = is.sound.numbered key msg old from
 
 start_unused : (machine : MachineParts) (loaded : LoadedImages) (traced : Bool) (number : ℕ) → (start_node machine loaded traced number).last ≡ None
 unfolding start_node
@@ -79,9 +79,9 @@ started machine loaded traced number site state sound whole queue = record {
     fitting = λ key msg waits. absurd (none key msg waits);
     no_past = λ key msg waits to. absurd (none key msg waits);
     step = λ time next. subst (λ (last : Option Key). IsAfter last (step_key (wind_tunnel site.node.machine) site.node.state time)) (sym unused) tt;
+    numbered = λ key msg waits from. absurd (none key msg waits);
   };
   own = λ key msg waits. absurd (none key msg waits);
-  numbered = λ key msg waits from. absurd (none key msg waits);
   ran = subst (IsPast 0) (sym unused) tt;
 }
   where
@@ -98,14 +98,14 @@ abbrev pub with_queue : NodeModel → ℕ → Bool → List Stamped → StationM
 with_queue node until broken queue = record { node = node; pending = pending_of queue; until = until; broken = broken }
 
 pub live_site : (until : ℕ) (site : Site) (broken : Bool) → IsLive (with_queue site.node until broken site.queue) → IsSite until site
-live_site until site broken is = record { whole = is.whole; sound = is.sound; own = is.own; numbered = is.numbered; ran = is.ran }
+live_site until site broken is = record { whole = is.whole; sound = is.sound; own = is.own; ran = is.ran }
 
 pub site_live : (until : ℕ) (site : Site) (broken : Bool) → IsSite until site → IsLive (with_queue site.node until broken site.queue)
-site_live until site broken is = record { whole = is.whole; sound = is.sound; own = is.own; numbered = is.numbered; ran = is.ran }
+site_live until site broken is = record { whole = is.whole; sound = is.sound; own = is.own; ran = is.ran }
 
 -- a later time was come to as well
 pub later_site : (past until : ℕ) (site : Site) → past ≤ until → IsSite past site → IsSite until site
-later_site past until site later is = record { whole = is.whole; sound = is.sound; own = is.own; numbered = is.numbered; ran = still site.node.state.last is.ran }
+later_site past until site later is = record { whole = is.whole; sound = is.sound; own = is.own; ran = still site.node.state.last is.ran }
   where
     still : (last : Option Key) → IsPast past last → IsPast until last
     still None ran = tt

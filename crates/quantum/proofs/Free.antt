@@ -115,7 +115,7 @@ module _ (until : ℕ) (before middle : Site) (turn : Turn) (sends : List Stampe
     pub still_a_site : IsSite until after
     still_a_site =
         let it = subst (λ (m : MachineParts). IsAt m until after.node.state (pending_of after.queue)) (sym machine_is) at_after in
-        record { whole = ap (λ (n : NodeModel). n.broken) (o.node ∙ h.node) ∙ is.whole; sound = it.sound; own = it.own; numbered = it.numbered; ran = it.ran }
+        record { whole = ap (λ (n : NodeModel). n.broken) (o.node ∙ h.node) ∙ is.whole; sound = it.sound; own = it.own; ran = it.ran }
 
     pub one_event_more : events_of after.node.state ≡ suc (events_of state)
     one_event_more = ap events_of new_is ∙ (event_reacts machine until within state queue h.key h.event h.least at).handled

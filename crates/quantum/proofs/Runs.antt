@@ -36,7 +36,6 @@ use Rattle.quantum.proofs.Way.{own_due, own_reacts, own_next}
 pub record IsAt (machine : MachineParts) (until : ℕ) (state : NodeState) (pending : Queue Msg) : Type 0 where
   pub sound : IsStation (wind_tunnel machine) (IsNode machine) (Fits machine) state pending
   pub own : (key : Key) (msg : Msg) → get pending key ≡ Some msg → key.to ≡ state.number
-  pub numbered : (key : Key) (msg : Msg) → get pending key ≡ Some msg → key.from ≡ state.number → key.sequence < state.counters.sent
   pub ran : IsPast until state.last
 
 -- ---- lists of messages
@@ -58,14 +57,6 @@ others_rise number sequence end (send ∷ sends) numbered most =
     by : (b : Bool) → RiseWithin (sequence + 1) end (others_of number sends) → RiseWithin sequence end (cond b (send ∷ others_of number sends) (others_of number sends))
     by true rest = (let e = numbered.0 in omega arith, let e = numbered.0 in omega arith, rise_from (send.sequence + 1) (sequence + 1) end (others_of number sends) (let e = numbered.0 in omega arith) rest)
     by false rest = rise_from sequence (sequence + 1) end (others_of number sends) (omega arith) rest
-
--- a message among some that are numbered
-numbered_below : (sequence : ℕ) (message : Message Msg) (sends : List Stamped) → AreNumbered sequence sends → IsIn message (map message_under_key sends) → message.0.sequence < sequence + length sends
-numbered_below sequence message [] numbered member = absurd member
-numbered_below sequence message (send ∷ sends) numbered (inl is) =
-    let e : message.0.sequence ≡ send.sequence = ap (λ (m : Message Msg). m.0.sequence) is in let n = numbered.0 in omega (arith, e)
-numbered_below sequence message (send ∷ sends) numbered (inr member) =
-    let later = numbered_below (sequence + 1) message sends numbered.1 member in omega arith
 
 pub others_are : (number : ℕ) (sends : List Stamped) → map message_under_key (others_of number sends) ≡ filter (λ (m : Message Msg). not (m.0.to == number)) (map message_under_key sends)
 others_are number [] = refl
@@ -112,7 +103,7 @@ module _ (machine : MachineParts) (until : ℕ) (within : until ≤ machine.budg
 
   -- what it sends may be handed out
   pub own_below : (q : Key) (msg : Msg) → get (taken event pending) q ≡ Some msg → q.from ≡ new.number → q.sequence < state.counters.sent
-  own_below q msg there from = at.numbered q msg (left q msg there) (from ∙ event_reacts.number)
+  own_below q msg there from = at.sound.numbered q msg (left q msg there) (from ∙ event_reacts.number)
 
   pub own_sources : AllByRecursion (λ (message : Stamped). message.from ≡ new.number) sends
   own_sources = sources new.number machine state key sends event_reacts.number event_reacts.sent
@@ -122,7 +113,6 @@ module _ (machine : MachineParts) (until : ℕ) (within : until ≤ machine.budg
   next_at = record {
     sound = own_next (wind_tunnel machine) (IsNode machine) (Fits machine) sim_laws.laws until within state pending key event is_least at.sound;
     own = λ q msg there. own_to q msg (from_placed (taken event pending) (own_of state.number sends) q msg there) ∙ sym event_reacts.number;
-    numbered = λ q msg there from. own_numbered q msg from (from_placed (taken event pending) (own_of state.number sends) q msg there);
     ran = subst (IsPast until) (sym event_reacts.last) (counts_time (wind_tunnel machine) until state key.time (counts_and_is (wind_tunnel machine) until state pending key event (least_in _ (key, event) is_least)).0);
   }
     where
@@ -130,19 +120,13 @@ module _ (machine : MachineParts) (until : ℕ) (within : until ≤ machine.budg
       own_to q msg (inl sent) = eqb-true _ _ (from_filter (λ (m : Message Msg). m.0.to == state.number) (q, msg) (map message_under_key sends) sent).1
       own_to q msg (inr old) = at.own q msg (left q msg old)
 
-      own_numbered : (q : Key) (msg : Msg) → q.from ≡ new.number → IsIn (q, msg) (own_of state.number sends) ⊎ (get (taken event pending) q ≡ Some msg) → q.sequence < new.counters.sent
-      own_numbered q msg from (inl sent) =
-          let below = numbered_below state.counters.sent (q, msg) sends event_counted.numbered (from_filter (λ (m : Message Msg). m.0.to == state.number) (q, msg) (map message_under_key sends) sent).0 in
-          let more = event_counted.sent in omega (arith, more)
-      own_numbered q msg from (inr old) = let below = own_below q msg old from in let more = event_counted.sent in omega (arith, more)
-
   pub others_numbered : RiseWithin state.counters.sent new.counters.sent (others_of state.number sends)
   others_numbered = others_rise state.number state.counters.sent new.counters.sent sends event_counted.numbered (let more = event_counted.sent in omega (arith, more))
 
 -- ---- the events of a site
 
 pub site_at : (until : ℕ) (site : Site) → IsSite until site → IsAt site.node.machine until site.node.state (pending_of site.queue)
-site_at until site is = record { sound = is.sound; own = is.own; numbered = is.numbered; ran = is.ran }
+site_at until site is = record { sound = is.sound; own = is.own; ran = is.ran }
 
 pub handled_step : (until : ℕ) (before after : Site) (turn : Turn) (sends_before sends_after : List Stamped) (steps_before steps_after : ℕ) → turn ≡ turns.Step → IsTurn until before (Some turn) → IsRising before.queue →
     after.node ≡ record (before.node) { state = (react before.node.machine before.node.state Step).0 } → after.queue ≡ before.queue →

@@ -103,7 +103,6 @@ module _ (site : Site) (quanta : Quanta) (at : IsSite quanta.kept_end site) (wor
     whole = at.whole;
     sound = at.sound;
     own = at.own;
-    numbered = at.numbered;
     ran = is_past site.node.machine site.node.state.last key (world.rising site.node.state key event (inl refl) (least_in _ (key, event) is)) early;
   }
 
@@ -218,7 +217,6 @@ module _ (before middle after : Site) (turn : Turn) (sends outs_before outs_afte
           whole = it.whole;
           sound = it.sound;
           own = it.own;
-          numbered = it.numbered;
           ran = subst (IsPast (quanta_after machine (Some h.key) quanta).kept_end) (sym last_is) (is_within machine h.key quanta due_early at.sound.sound.numbers.quantum.at_least);
         }
 

@@ -60,14 +60,12 @@ abbrev pub HasNoPast : StationModel → Type 0
 HasNoPast station =
     (key : Key) (msg : Msg) → get station.pending key ≡ Some msg → IsAfter station.node.state.last key
 
--- what every station keeps that isn't broken: its node and its messages are those of a station of the simulation, its
--- messages are to itself, and those from itself are among the ones it has numbered
+-- what every station keeps that isn't broken: its node and its messages are those of a station of the simulation, and its
+-- messages are to itself
 pub record IsLive (station : StationModel) : Type 0 where
   pub whole : IsWhole station.node
   pub sound : IsStation (wind_tunnel (machine_of station)) (IsNode (machine_of station)) (Fits (machine_of station)) station.node.state station.pending
   pub own : (key : Key) (msg : Msg) → get station.pending key ≡ Some msg → key.to ≡ station.node.state.number
-  pub numbered : (key : Key) (msg : Msg) → get station.pending key ≡ Some msg → key.from ≡ station.node.state.number →
-      key.sequence < station.node.state.counters.sent
   pub ran : IsPast station.until station.node.state.last
 
 -- so is its queue a rising one

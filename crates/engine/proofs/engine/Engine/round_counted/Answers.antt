@@ -6,7 +6,7 @@ use Rattle.node.specs.React.{wind_tunnel}
 use Rattle.quantum.specs.Stations.{StationModel, HasNoPast, IsUnbroken as IsWholeStation, machine_of}
 use Rattle.engine.specs.Engine.{EngineModel, events_so_far, sim_of, world_of}
 use Rattle.engine.specs.Rounds.{IsOver}
-use Rattle.engine.specs.Quantum.{HaveAdvanced, MayExchange, earliest_of}
+use Rattle.engine.specs.Quantum.{HaveExchanged, MayExchange, earliest_of}
 use Rattle.engine.proofs.Going.{all_whole, before_budget, few_quanta, gone_on, may_exchange, may_go_on, may_run, over, stays, written}
 use Rattle.engine.proofs.Quanta.{Done, events_bound, no_past}
 use Rattle.engine.proofs.engine.Engine.round_counted.Given as given
@@ -80,7 +80,7 @@ the_done g c =
     let items : c.deref_mut.result.now ≡ c.self.inside.stations.items = c.deref_mut.ensures.value in
     let long : length c.advance.new.stations ≡ c.self.inside.stations.len = let l = c.self.inside.stations.ok.0 in let k = ap (length {A = StationModel}) items in let a = c.advance.auto.stations in omega arith in
     gone_on _ c.args.self.now c.self.view_is running c.in-Some.time c.min-until.result (ap earliest_of (sym c.deref.ensures.value) ∙ sym c.in-Some.ensures) end
-    c.advance.new.stations _ (subst (λ (xs : List StationModel). HaveAdvanced c.min-until.result xs c.advance.new.stations) items c.in_ok-advance.ensures)
+    c.advance.new.stations _ (subst (λ (xs : List StationModel). HaveExchanged c.min-until.result xs c.advance.new.stations) items c.in_ok-advance.ensures)
     (written c.self.inside.stations.len c.advance.new.stations (drop (length c.advance.new.stations) c.self.inside.stations.items) long)
 
 pub invariant_of-self-2 : goal.invariant_of-self-2
