@@ -7,7 +7,7 @@ use elf_image::{Bytes, Image, Segment, Segments, read_flat};
 use image_loader::{Loaded, load};
 use std::alloc::Global;
 use std::test::Fail;
-use wt_outside::MemSink;
+use wt_outside::{MemSink, WriteFault};
 use wt_params::{CostParts, Machine, MachineParts, NoMemory};
 
 /// A machine of two nodes, every number of which is another one.
@@ -112,7 +112,7 @@ image 0 entry 0x00000000 segments 0\nimage 1 entry 0x00000abc segments 2\n";
     let mut failing = MemSink::new(alloc, 4096, [2].to_vec(alloc)?, 3)?;
     assert_eq!(rt;
         write_machine(alloc, &machine, &loaded, &mut failing),
-        Err(ListingFault::Failed)
+        Err(WriteFault::Failed)
     );
     assert_eq!(rt; failing.bytes(), b"version 1\nnodes 2\npri".as_slice());
     Ok(())
@@ -127,7 +127,7 @@ fn the_words_of_flat_bytes(rt: HostRuntime) -> Result<(), Fail> {
     let alloc = rt.alloc();
     let program = PROGRAM.as_slice();
     // The bytes and their address, the writes that fail and what such a write keeps, the answer, and what is written.
-    let rows: [(&[u8], u32, &[u64], Result<(), ListingFault>, &[u8]); 5] = [
+    let rows: [(&[u8], u32, &[u64], Result<(), WriteFault>, &[u8]); 5] = [
         (
             program,
             0,
@@ -158,7 +158,7 @@ fn the_words_of_flat_bytes(rt: HostRuntime) -> Result<(), Fail> {
             program,
             0x1000,
             &[1],
-            Err(ListingFault::Failed),
+            Err(WriteFault::Failed),
             b"0x00001000 0x04100513 addi x10, x0, 65\n0x00",
         ),
     ];
