@@ -11,11 +11,7 @@ use wt_stats::{Head, Outcome};
 use wt_text::Line;
 
 /// Writes what a simulation came to.
-pub(crate) fn write_head<K: Sink>(
-    alloc: Global,
-    head: &Head,
-    out: &mut K,
-) -> Result<(), WriteFault>
+pub(crate) fn write_head<K: Sink>(alloc: Global, head: &Head, out: &mut K) -> Result<(), WriteFault>
     ensures { Writes (head_text head.now) result K.view out.old out.new }
 {
     write_outcome(alloc, head.outcome, out)?;

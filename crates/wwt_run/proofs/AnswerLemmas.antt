@@ -1,7 +1,6 @@
 -- What is shown of a call by what its parts answered.
-use Rattle.std.proofs.Common.{◌≡◌, ◌≢◌, ◌≤◌, ℕ, List, [], Option, Some, Result, Ok, Err, IfOk, IfErr, OnOk, ◌⊎◌, inl, inr, Bool, true, false, cond, ap, sym, ◌∙◌, subst, refl}
+use Rattle.std.proofs.Common.{◌≡◌, ◌≢◌, ℕ, List, [], Option, Some, Result, Ok, Err, ◌⊎◌, inl, inr, Bool, true, false, cond, ap, sym, ◌∙◌, subst, refl}
 use Rattle.std.proofs.lemmas.Bool.{false≢true}
-use Rattle.wt_outside.specs.Faults.{Rose, Stood}
 use Rattle.wt_outside.specs.Files.{Files}
 use Rattle.wt_outside.specs.Growth.{Grows, GrowsByPrefix}
 use Rattle.wt_outside.specs.Views.{StoreView, SinkView}
@@ -22,14 +21,14 @@ use Rattle.wt_stats.specs.declared.head.Outcome.{Outcome}
 use Rattle.wt_stats.specs.declared.head.Outcome.TheVariants as outcomes
 use Rattle.wwt_run.specs.declared.status.Status.{Status}
 use Rattle.wwt_run.specs.declared.status.Status.TheVariants.{Done, NodeFault, Usage, Budget, EventLimit, Stalled, BadMachine, BadImage, ReadFault, WriteFault as FailedWrite, NoMemory}
-use Rattle.wwt_run.specs.Status.{status_of_end, status_of_refusal, status_after_of}
+use Rattle.wwt_run.specs.Status.{status_of_refusal, status_after_of}
 use Rattle.wt_params.specs.declared.parts.MachineParts.{MachineParts}
 use Rattle.wt_params.specs.Machine.{flat_machine}
 use Rattle.image_loader.specs.Images.{LoadedImages}
 use Rattle.quantum.specs.Outcome.{outcome_of}
 use Rattle.wt_report.specs.declared.options.Options.{Options}
 use Rattle.wwt_run.specs.Jobs.{final_of, refusal_of, asked_of, summary_of, status_of_job, output_of_job, status_of, output_of, status_of_run}
-use Rattle.wwt_run.specs.Answer.{Words, texts_of, IsUsage, wanted, listed, Ends, IsDone, IsUnwritten, Headline, EndsBy, AsksInOrder, Written, Untouched, Attempts}
+use Rattle.wwt_run.specs.Answer.{Words, texts_of, IsUsage, wanted, listed, Ends, IsDone, IsUnwritten, Headline, AsksInOrder, Untouched, Attempts}
 
 either_done : (b : Bool) → IsDone (cond b Done NodeFault)
 either_done true = tt
@@ -95,9 +94,9 @@ module _ {S K : Type 0} (words : Words) (store : StoreView S) (s0 s1 : S) (out :
   refused_headline files told stood out_stood = elim (read.refused files told stood) [
     | inl memory ↦ inl (ap (λ (r : Refusal). Some (status_of_refusal r)) memory)
     | inr same ↦ inr (
-        ap (λ (c : Result Job Refusal). Some (status_of c)) (sym same),
-        subst (λ (c : Result Job Refusal). Grows (out.written k) (out.written k) (output_of c)) (sym same) (grows_nothing refl),
-      )
+      ap (λ (c : Result Job Refusal). Some (status_of c)) (sym same),
+      subst (λ (c : Result Job Refusal). Grows (out.written k) (out.written k) (output_of c)) (sym same) (grows_nothing refl),
+    )
   ]
 
   refused_asks : AsksInOrder words store s0 s1 (Some (status_of_refusal refusal))
