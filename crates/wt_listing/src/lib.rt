@@ -4,12 +4,10 @@
 //! that writes a text promises is `Writes` of `wt_outside`.
 #![tactic(auto)]
 
-mod fault;
 mod machine;
 mod words;
 mod write;
 
-pub use fault::ListingFault;
 pub use machine::write_machine;
 pub use words::write_words;
 

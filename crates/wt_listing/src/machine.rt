@@ -2,15 +2,13 @@ ghost use Rattle.std.specs.Prelude.{◌≡◌, flat_map, IfOk};
 ghost use Rattle.std.specs.List.{enumerate_from};
 ghost use Rattle.image_loader.specs.Images.{IsFor};
 ghost use Rattle.wt_outside.specs.Writes.{Writes};
-ghost use Rattle.wt_listing.specs.declared.fault.ListingFault.TheVariants.{Failed};
 ghost use Rattle.wt_listing.specs.Listing.{version_line, field_line_of, image_line_of, machine_text};
 
-use crate::fault::ListingFault;
 use crate::write::write_line;
 use elf_image::Image;
 use image_loader::Loaded;
 use std::alloc::Global;
-use wt_outside::Sink;
+use wt_outside::{Sink, WriteFault};
 use wt_params::{Field, Machine, MachineParts, NoMemory};
 use wt_text::Line;
 
@@ -21,17 +19,17 @@ pub fn write_machine<K: Sink>(
     machine: &Machine,
     loaded: &Loaded,
     out: &mut K,
-) -> Result<(), ListingFault>
+) -> Result<(), WriteFault>
     requires { IsFor machine.now loaded.now }
-    ensures { Writes Failed (machine_text machine.now loaded.now) result (K.faults out.old) (K.faults out.new) (K.written out.old) (K.written out.new) }
+    ensures { Writes (machine_text machine.now loaded.now) result K.view out.old out.new }
 {
     write_version(alloc, out)?;
     write_fields(alloc, &machine.parts(), &Field::all(), out)?;
     write_images(alloc, loaded.images(), out)
 }
 
-fn write_version<K: Sink>(alloc: Global, out: &mut K) -> Result<(), ListingFault>
-    ensures { Writes Failed version_line result (K.faults out.old) (K.faults out.new) (K.written out.old) (K.written out.new) }
+fn write_version<K: Sink>(alloc: Global, out: &mut K) -> Result<(), WriteFault>
+    ensures { Writes version_line result K.view out.old out.new }
 {
     let line = Line::new(alloc, b"version 1\n")?;
     write_line(&line, out)
@@ -43,8 +41,8 @@ fn write_fields<K: Sink>(
     machine: &MachineParts,
     fields: &[Field],
     out: &mut K,
-) -> Result<(), ListingFault>
-    ensures { Writes Failed (flat_map (field_line_of machine.now) fields.now) result (K.faults out.old) (K.faults out.new) (K.written out.old) (K.written out.new) }
+) -> Result<(), WriteFault>
+    ensures { Writes (flat_map (field_line_of machine.now) fields.now) result K.view out.old out.new }
 {
     for field in fields {
         write_field(alloc, machine, *field, out)?;
@@ -57,8 +55,8 @@ fn write_field<K: Sink>(
     machine: &MachineParts,
     field: Field,
     out: &mut K,
-) -> Result<(), ListingFault>
-    ensures { Writes Failed (field_line_of machine.now field) result (K.faults out.old) (K.faults out.new) (K.written out.old) (K.written out.new) }
+) -> Result<(), WriteFault>
+    ensures { Writes (field_line_of machine.now field) result K.view out.old out.new }
 {
     let line = field_line(alloc, machine, field)?;
     write_line(&line, out)
@@ -76,8 +74,8 @@ fn field_line(alloc: Global, machine: &MachineParts, field: Field) -> Result<Lin
 }
 
 /// Writes a line for each of these images.
-fn write_images<K: Sink>(alloc: Global, images: &[Image], out: &mut K) -> Result<(), ListingFault>
-    ensures { Writes Failed (flat_map image_line_of (enumerate_from 0 images.now)) result (K.faults out.old) (K.faults out.new) (K.written out.old) (K.written out.new) }
+fn write_images<K: Sink>(alloc: Global, images: &[Image], out: &mut K) -> Result<(), WriteFault>
+    ensures { Writes (flat_map image_line_of (enumerate_from 0 images.now)) result K.view out.old out.new }
 {
     for (number, image) in images.iter().enumerate() {
         write_image(alloc, number, image, out)?;
@@ -90,8 +88,8 @@ fn write_image<K: Sink>(
     number: usize,
     image: &Image,
     out: &mut K,
-) -> Result<(), ListingFault>
-    ensures { Writes Failed (image_line_of (number, image.now)) result (K.faults out.old) (K.faults out.new) (K.written out.old) (K.written out.new) }
+) -> Result<(), WriteFault>
+    ensures { Writes (image_line_of (number, image.now)) result K.view out.old out.new }
 {
     let line = image_line(alloc, number, image)?;
     write_line(&line, out)

@@ -1,15 +1,13 @@
 ghost use Rattle.std.specs.Prelude.{◌≡◌, ◌<◌, ◌/◌, flat_map, length, IfOk};
 ghost use Rattle.wt_outside.specs.Writes.{Writes};
-ghost use Rattle.wt_listing.specs.declared.fault.ListingFault.TheVariants.{Failed};
 ghost use Rattle.wt_listing.specs.Listing.{word_line_of, word_of, segment_text, words_text};
 
-use crate::fault::ListingFault;
 use crate::write::write_line;
 use byteorder::{ByteOrder, LittleEndian};
 use elf_image::{Image, Segment};
 use rv_decode::decode;
 use std::alloc::Global;
-use wt_outside::Sink;
+use wt_outside::{Sink, WriteFault};
 use wt_params::NoMemory;
 use wt_text::Line;
 
@@ -19,8 +17,8 @@ const WORD_BYTES: usize = 4;
 /// Writes the words of an image, segment by segment, a line for each: its address, the word and its text, as
 /// `0x00000000 0x04100513 addi x10, x0, 65`. Only the bytes that a segment has of its own are shown, and of these no
 /// rest of fewer than four. Addresses wrap.
-pub fn write_words<K: Sink>(alloc: Global, image: &Image, out: &mut K) -> Result<(), ListingFault>
-    ensures { Writes Failed (words_text image.now) result (K.faults out.old) (K.faults out.new) (K.written out.old) (K.written out.new) }
+pub fn write_words<K: Sink>(alloc: Global, image: &Image, out: &mut K) -> Result<(), WriteFault>
+    ensures { Writes (words_text image.now) result K.view out.old out.new }
 {
     write_segments(alloc, image.segments.get(), out)
 }
@@ -29,8 +27,8 @@ fn write_segments<K: Sink>(
     alloc: Global,
     segments: &[Segment],
     out: &mut K,
-) -> Result<(), ListingFault>
-    ensures { Writes Failed (flat_map segment_text segments.now) result (K.faults out.old) (K.faults out.new) (K.written out.old) (K.written out.new) }
+) -> Result<(), WriteFault>
+    ensures { Writes (flat_map segment_text segments.now) result K.view out.old out.new }
 {
     for segment in segments {
         write_segment(alloc, segment, out)?;
@@ -39,8 +37,8 @@ fn write_segments<K: Sink>(
 }
 
 /// Writes the whole words of a segment's own bytes.
-fn write_segment<K: Sink>(alloc: Global, segment: &Segment, out: &mut K) -> Result<(), ListingFault>
-    ensures { Writes Failed (segment_text segment.now) result (K.faults out.old) (K.faults out.new) (K.written out.old) (K.written out.new) }
+fn write_segment<K: Sink>(alloc: Global, segment: &Segment, out: &mut K) -> Result<(), WriteFault>
+    ensures { Writes (segment_text segment.now) result K.view out.old out.new }
 {
     let bytes = segment.bytes.get();
     let mut address = segment.at;
@@ -64,8 +62,8 @@ fn write_word<K: Sink>(
     address: u32,
     word: u32,
     out: &mut K,
-) -> Result<(), ListingFault>
-    ensures { Writes Failed (word_line_of address word) result (K.faults out.old) (K.faults out.new) (K.written out.old) (K.written out.new) }
+) -> Result<(), WriteFault>
+    ensures { Writes (word_line_of address word) result K.view out.old out.new }
 {
     let line = word_line(alloc, address, word)?;
     write_line(&line, out)

@@ -10,66 +10,80 @@ use Rattle.wt_outside.specs.Faults.{Rose}
 use Rattle.wt_outside.specs.Growth.{Grows}
 use Rattle.wt_outside.proofs.GrowthLemmas.{grows_then, grows_then_prefix, prefix_all, prefix_longer}
 use Rattle.wt_outside.specs.Writes.{Writes}
+use Rattle.wt_outside.specs.Views.{SinkView}
+use Rattle.wt_outside.specs.declared.fault.WriteFault.{WriteFault}
+use Rattle.wt_outside.specs.declared.fault.WriteFault.TheVariants.{Failed}
 
 -- a text was written whole, and nothing has failed
-pub record HasWritten (text : List ℕ) (before now : ℕ) (old new : Option (List ℕ)) : Type 0 where
-  pub grew : Grows old new text
-  pub steady : now ≡ before
+pub record HasWritten {S : Type 0} (text : List ℕ) (view : SinkView S) (old new : S) : Type 0 where
+  pub grew : Grows (view.written old) (view.written new) text
+  pub steady : view.faults new ≡ view.faults old
 
-no_fault : {F : Type 0} (failed : F) (u : Unit {0}) → let answer : Result (Unit {0}) F = Ok u in answer ≢ Err failed
-no_fault failed u same = cc
+no_fault : {T : Type 0} (value : T) → let answer : Result T WriteFault = Ok value in answer ≢ Err Failed
+no_fault value same = cc
 
-pub written_then : {x y : List ℕ} {before between now : ℕ} {old middle new : Option (List ℕ)} → HasWritten x before between old middle → HasWritten y between now middle new → HasWritten (x ++ y) before now old new
-written_then first second = record { grew = grows_then first.grew second.grew; steady = second.steady ∙ first.steady }
-
--- a call that answered Ok has written its text, and one that has written its text may answer Ok
-pub written_by : {F : Type 0} {failed : F} {x : List ℕ} {u : Unit {0}} {before now : ℕ} {old new : Option (List ℕ)} → Writes failed x (Ok u) before now old new → HasWritten x before now old new
-written_by {failed = failed} {u = u} done = record { grew = done.whole; steady = done.steady (no_fault failed u) }
-
-pub writes_done : {F : Type 0} {failed : F} {x : List ℕ} {u : Unit {0}} {before now : ℕ} {old new : Option (List ℕ)} → HasWritten x before now old new → Writes failed x (Ok u) before now old new
-writes_done {failed = failed} {u = u} written = record {
-  whole = written.grew;
-  part = prefix_all written.grew;
-  failed = λ same. absurd (no_fault failed u same);
-  steady = λ _. written.steady;
-  later = omega arith;
-}
-
-whole_then : {F : Type 0} (x y : List ℕ) (old middle new : Option (List ℕ)) (result : Result (Unit {0}) F) → Grows old middle x → OnOk result (Grows middle new y) → OnOk result (Grows old new (x ++ y))
-whole_then x y old middle new (Ok u) first second = grows_then first second
+whole_then : {T : Type 0} (x y : List ℕ) (old middle new : Option (List ℕ)) (result : Result T WriteFault) → Grows old middle x → OnOk result (Grows middle new y) → OnOk result (Grows old new (x ++ y))
+whole_then x y old middle new (Ok value) first second = grows_then first second
 whole_then x y old middle new (Err fault) first second = tt
 
--- one text was written, and then a call wrote another
-pub writes_then : {F : Type 0} {failed : F} {x y : List ℕ} {result : Result (Unit {0}) F} {before between now : ℕ} {old middle new : Option (List ℕ)} → HasWritten x before between old middle → Writes failed y result between now middle new → Writes failed (x ++ y) result before now old new
-writes_then {result = result} {now = now} first second = record {
-  whole = whole_then _ _ _ _ _ result first.grew second.whole;
-  part = grows_then_prefix first.grew second.part;
-  failed = λ same. subst (λ b. Rose b now) first.steady (second.failed same);
-  steady = λ other. second.steady other ∙ first.steady;
-  later = omega arith;
-}
+module _ {S : Type 0} {view : SinkView S} where
+  pub written_then : {x y : List ℕ} {old middle new : S} → HasWritten x view old middle → HasWritten y view middle new → HasWritten (x ++ y) view old new
+  written_then first second = record { grew = grows_then first.grew second.grew; steady = second.steady ∙ first.steady }
 
--- a call that stopped early has written a part of any longer text
-pub writes_stopped : {F : Type 0} {failed : F} {x : List ℕ} {fault : F} {before now : ℕ} {old new : Option (List ℕ)} (rest : List ℕ) → Writes failed x (Err fault) before now old new → Writes failed (x ++ rest) (Err fault) before now old new
-writes_stopped rest stopped = record {
-  whole = tt;
-  part = prefix_longer rest stopped.part;
-  failed = stopped.failed;
-  steady = stopped.steady;
-  later = stopped.later;
-}
+  -- a call that answered Ok has written its text, and one that has written its text may answer Ok
+  pub written_by : {T : Type 0} {x : List ℕ} {value : T} {old new : S} → Writes x (Ok value) view old new → HasWritten x view old new
+  written_by {value = value} done = record { grew = done.whole; steady = done.steady (no_fault value) }
 
--- the exit of a `?` hands the fault on
-pub writes_handed_on : {F : Type 0} {failed : F} {x : List ℕ} {fault : F} {before now : ℕ} {old new : Option (List ℕ)} (result : Result (Unit {0}) F) → IsErrAnd result (λ given. given ≡ fault) → Writes failed x (Err fault) before now old new → Writes failed x result before now old new
-writes_handed_on {failed = failed} {x = x} {before = before} {now = now} {old = old} {new = new} result handed stopped =
-    let is = err_from_is_err_and result handed in
-    subst (λ r. Writes failed x r before now old new) (sym is.1)
-    (subst (λ given. Writes failed x (Err given) before now old new) (sym is.2) stopped)
+  pub writes_done : {T : Type 0} {x : List ℕ} {value : T} {old new : S} → HasWritten x view old new → Writes x (Ok value) view old new
+  writes_done {value = value} written = record {
+    whole = written.grew;
+    part = prefix_all written.grew;
+    failed = λ same. absurd (no_fault value same);
+    steady = λ _. written.steady;
+    later = omega arith;
+  }
 
--- the same of a text that is known to be another
-pub writes_same : {F : Type 0} {failed : F} {x y : List ℕ} {before now : ℕ} {old new : Option (List ℕ)} (result : Result (Unit {0}) F) → x ≡ y → Writes failed x result before now old new → Writes failed y result before now old new
-writes_same {failed = failed} {before = before} {now = now} {old = old} {new = new} result same writes =
-    subst (λ l. Writes failed l result before now old new) same writes
+  -- one text was written, and then a call wrote another
+  pub writes_then : {T : Type 0} {x y : List ℕ} {result : Result T WriteFault} {old middle new : S} → HasWritten x view old middle → Writes y result view middle new → Writes (x ++ y) result view old new
+  writes_then {result = result} {new = new} first second = record {
+    whole = whole_then _ _ _ _ _ result first.grew second.whole;
+    part = grows_then_prefix first.grew second.part;
+    failed = λ same. subst (λ b. Rose b (view.faults new)) first.steady (second.failed same);
+    steady = λ other. second.steady other ∙ first.steady;
+    later = omega (arith, first.steady, second.later);
+  }
+
+  -- a call that stopped early has written a part of any longer text
+  pub writes_stopped : {T : Type 0} {x : List ℕ} {fault : WriteFault} {old new : S} (rest : List ℕ) → Writes {T = T} x (Err fault) view old new → Writes {T = T} (x ++ rest) (Err fault) view old new
+  writes_stopped rest stopped = record {
+    whole = tt;
+    part = prefix_longer rest stopped.part;
+    failed = stopped.failed;
+    steady = stopped.steady;
+    later = stopped.later;
+  }
+
+  -- the exit of a `?` hands the fault on
+  pub writes_handed_on : {T : Type 0} {x : List ℕ} {fault : WriteFault} {old new : S} (result : Result T WriteFault) → IsErrAnd result (λ given. given ≡ fault) → Writes {T = T} x (Err fault) view old new → Writes x result view old new
+  writes_handed_on {T = T} {x = x} {old = old} {new = new} result handed stopped =
+      let is = err_from_is_err_and result handed in
+      subst (λ r. Writes x r view old new) (sym is.1)
+      (subst (λ given. Writes {T = T} x (Err given) view old new) (sym is.2) stopped)
+
+  -- a caller hands the fault on, in an answer of its own
+  pub writes_failed : {T U : Type 0} {x : List ℕ} {fault : WriteFault} {old new : S} → Writes {T = T} x (Err fault) view old new → Writes {T = U} x (Err fault) view old new
+  writes_failed {fault = fault} stopped = record {
+    whole = tt;
+    part = stopped.part;
+    failed = λ same. stopped.failed (let is : fault ≡ Failed = cc in ap Err is);
+    steady = λ other. stopped.steady (λ same. other (let is : fault ≡ Failed = cc in ap Err is));
+    later = stopped.later;
+  }
+
+  -- the same of a text that is known to be another
+  pub writes_same : {T : Type 0} {x y : List ℕ} {old new : S} (result : Result T WriteFault) → x ≡ y → Writes x result view old new → Writes y result view old new
+  writes_same {old = old} {new = new} result same writes =
+      subst (λ l. Writes l result view old new) same writes
 
 -- ---- a text for each element of a list, in turn
 
@@ -87,17 +101,17 @@ module _ {X : Type 0} (f : X → List ℕ) (xs : List X) (i : ℕ) (x : X) where
       ∙ ap (λ l. l ++ flat_map f (drop (i + 1) xs)) (text_more within at)
 
   -- the text of one more element
-  pub written_more : {F : Type 0} {failed : F} {u : Unit {0}} {before between now : ℕ} {old middle new : Option (List ℕ)} → i < length xs → x ≡ get_or xs i x → HasWritten (flat_map f (take i xs)) before between old middle → Writes failed (f x) (Ok u) between now middle new → HasWritten (flat_map f (take (i + 1) xs)) before now old new
-  written_more {before = before} {now = now} {old = old} {new = new} within at first second =
-      subst (λ l. HasWritten l before now old new) (sym (text_more within at)) (written_then first (written_by second))
+  pub written_more : {S T : Type 0} {view : SinkView S} {value : T} {old middle new : S} → i < length xs → x ≡ get_or xs i x → HasWritten (flat_map f (take i xs)) view old middle → Writes (f x) (Ok value) view middle new → HasWritten (flat_map f (take (i + 1) xs)) view old new
+  written_more {view = view} {old = old} {new = new} within at first second =
+      subst (λ l. HasWritten l view old new) (sym (text_more within at)) (written_then first (written_by second))
 
   -- writing ended early at an element
-  pub writes_until : {F : Type 0} {failed fault : F} {before between now : ℕ} {old middle new : Option (List ℕ)} → i < length xs → x ≡ get_or xs i x → HasWritten (flat_map f (take i xs)) before between old middle → Writes failed (f x) (Err fault) between now middle new → Writes failed (flat_map f xs) (Err fault) before now old new
-  writes_until {failed = failed} {fault = fault} {before = before} {now = now} {old = old} {new = new} within at first second =
-      subst (λ l. Writes failed l (Err fault) before now old new) (sym (text_at within at))
+  pub writes_until : {S T : Type 0} {view : SinkView S} {fault : WriteFault} {old middle new : S} → i < length xs → x ≡ get_or xs i x → HasWritten (flat_map f (take i xs)) view old middle → Writes {T = T} (f x) (Err fault) view middle new → Writes {T = T} (flat_map f xs) (Err fault) view old new
+  writes_until {T = T} {view = view} {fault = fault} {old = old} {new = new} within at first second =
+      subst (λ l. Writes {T = T} l (Err fault) view old new) (sym (text_at within at))
       (writes_stopped (flat_map f (drop (i + 1) xs)) (writes_then first second))
 
 -- the texts of all elements
-pub writes_all : {X : Type 0} (f : X → List ℕ) (xs : List X) (i : ℕ) {F : Type 0} {failed : F} {u : Unit {0}} {before now : ℕ} {old new : Option (List ℕ)} → i ≡ length xs → HasWritten (flat_map f (take i xs)) before now old new → Writes failed (flat_map f xs) (Ok u) before now old new
-writes_all f xs i {failed = failed} {u = u} {before = before} {now = now} {old = old} {new = new} end written =
-    subst (λ l. Writes failed (flat_map f l) (Ok u) before now old new) (ap (λ k. take k xs) end ∙ take-length xs) (writes_done written)
+pub writes_all : {X : Type 0} (f : X → List ℕ) (xs : List X) (i : ℕ) {S T : Type 0} {view : SinkView S} {value : T} {old new : S} → i ≡ length xs → HasWritten (flat_map f (take i xs)) view old new → Writes (flat_map f xs) (Ok value) view old new
+writes_all {X} f xs i {view = view} {value = value} {old = old} {new = new} end written =
+    subst (λ (l : List X). Writes (flat_map f l) (Ok value) view old new) (ap (λ k. take k xs) end ∙ take-length xs) (writes_done written)

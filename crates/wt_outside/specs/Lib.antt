@@ -5,4 +5,5 @@ pub mod Files
 pub mod Growth
 pub mod MemBytes
 pub mod MemFiles
+pub mod Views
 pub mod Writes

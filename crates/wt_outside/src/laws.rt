@@ -1,9 +1,9 @@
-ghost use Rattle.std.specs.Prelude.{◌≡◌, ℕ, List, ◌++◌};
-ghost use Rattle.wt_outside.specs.Asked.{AreAsked, AreRemembered};
+ghost use Rattle.std.specs.Prelude.{◌≡◌, ℕ, List, ◌++◌, map};
+ghost use Rattle.wt_outside.specs.Asked.{AreAsked, keeper};
 
-/// What it means that names are asked of a store: where each read adds its name to a list, the list grows by exactly
-/// these names, in this order.
+/// What it means that names are asked of a store: where each read adds its name and its limit to a list, the list grows by
+/// exactly these names, in this order, each with that limit.
 pub fn reads_keep_their_order()
-    ensures { (faults : List (List ℕ) → ℕ) (old names new : List (List ℕ))
-        → AreAsked faults (AreRemembered (λ kept. kept)) old names new → new ≡ old ++ names }
+    ensures { (faults : List (List ℕ × ℕ) → ℕ) (limit : ℕ) (old new : List (List ℕ × ℕ)) (names : List (List ℕ))
+        → AreAsked (keeper faults) limit old names new → new ≡ old ++ map (λ name. (name, limit)) names }
 {}

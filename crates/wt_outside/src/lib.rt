@@ -4,12 +4,14 @@
 //! says that the outside failed comes only where that count rose, so code over them can't make one up.
 #![tactic(auto)]
 
+mod fault;
 mod laws;
 mod mem_sink;
 mod mem_store;
 mod sink;
 mod store;
 
+pub use fault::WriteFault;
 pub use laws::reads_keep_their_order;
 pub use mem_sink::MemSink;
 pub use mem_store::MemStore;

@@ -58,9 +58,7 @@ impl MemSink {
 }
 
 impl Sink for MemSink {
-    ghost written = { λ s. Some s.bytes };
-
-    ghost faults = { λ s. s.faults };
+    ghost view = { record { written = λ s. Some s.bytes; faults = λ s. s.faults } };
 
     fn write(&mut self, bytes: &[u8]) -> Result<(), Failed>
         requires { 0 < length bytes.now }

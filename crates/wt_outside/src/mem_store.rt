@@ -59,11 +59,7 @@ fn find<'a>(files: &'a [(String, Vec<u8>)], name: &str) -> Option<&'a [u8]>
 }
 
 impl Store for MemStore {
-    ghost files = { λ s. Some s.files };
-
-    ghost faults = { λ s. s.faults };
-
-    ghost asked = { λ old name new. new ≡ after_read old };
+    ghost view = { record { files = λ s. Some s.files; faults = λ s. s.faults; asked = λ old name limit new. new ≡ after_read old } };
 
     fn read(&mut self, name: &str, limit: u64) -> Result<Vec<u8>, StoreFail>
         // Which read fails, and what the others give.

@@ -1,6 +1,7 @@
-ghost use Rattle.std.specs.Prelude.{◌≡◌, ℕ, ◌≤◌, ◌⊎◌, List, Option, IfOk, IsSome, IsErrOf, vec_len};
+ghost use Rattle.std.specs.Prelude.{◌≡◌, ◌≤◌, ◌⊎◌, IfOk, IsSome, IsErrOf, vec_len};
 ghost use Rattle.wt_outside.specs.Faults.{Rose, Stood};
-ghost use Rattle.wt_outside.specs.Files.{Files, IsMissing, HoldsThere, IsLonger};
+ghost use Rattle.wt_outside.specs.Files.{IsMissing, HoldsThere, IsLonger};
+ghost use Rattle.wt_outside.specs.Views.{StoreView};
 
 use thiserror::Error;
 
@@ -22,36 +23,29 @@ pub enum StoreFail {
 pub trait Store {
     ghost use Rattle.wt_outside.specs.Answers.{UnlessFailed};
 
-    /// The files, by the bytes of their names. None where the store doesn't tell.
-    ghost files: { Self → Option Files };
-
-    /// How often reading has failed. It never falls, and stands still at 2^64 - 1.
-    ghost faults: { Self → ℕ };
-
-    /// What a read of a name makes of the store, as far as the store remembers its reads: one that counts them has one
-    /// more, one that keeps their names has this one at the end. Code over any store can't come to it but by a read.
-    ghost asked: { Self → List ℕ → Self → Type 0 };
+    /// What it shows: its files, how often reading has failed, and what a read makes of it.
+    ghost view: { StoreView Self };
 
     /// All bytes of a file, where there are at most `limit`. The name `-` is standard input.
     fn read(&mut self, name: &str, limit: u64) -> Result<Vec<u8>, StoreFail>
         // Reading changes no file.
-        ensures files { files self.new ≡ files self.old }
+        ensures files { view.files self.new ≡ view.files self.old }
 
         ensures within { IfOk result (λ bytes. vec_len bytes ≤ limit) }
-        ensures content { IfOk result (λ bytes. HoldsThere (files self.old) name.now bytes.items) }
+        ensures content { IfOk result (λ bytes. HoldsThere (view.files self.old) name.now bytes.items) }
 
         // Only the outside makes a failure: a fault that is counted, or a name that the told files lack.
-        ensures failed { IsErrOf result StoreFail.Failed → Rose (faults self.old) (faults self.new) ⊎ IsMissing (files self.old) name.now }
-        ensures missing { IsMissing (files self.old) name.now → Stood (faults self.old) (faults self.new) → IsErrOf result StoreFail.Failed }
+        ensures failed { IsErrOf result StoreFail.Failed → Rose (view.faults self.old) (view.faults self.new) ⊎ IsMissing (view.files self.old) name.now }
+        ensures missing { IsMissing (view.files self.old) name.now → Stood (view.faults self.old) (view.faults self.new) → IsErrOf result StoreFail.Failed }
 
         // Of told files TooLong comes exactly where no fault rose and the file is longer; `NoMemory` alone may come in its place.
-        ensures too_long { IsErrOf result StoreFail.TooLong → IsSome (files self.old) → Stood (faults self.old) (faults self.new) × IsLonger (files self.old) name.now limit }
-        ensures longer { IsLonger (files self.old) name.now limit → Stood (faults self.old) (faults self.new) → IsErrOf result StoreFail.TooLong ⊎ IsErrOf result StoreFail.NoMemory }
+        ensures too_long { IsErrOf result StoreFail.TooLong → IsSome (view.files self.old) → Stood (view.faults self.old) (view.faults self.new) × IsLonger (view.files self.old) name.now limit }
+        ensures longer { IsLonger (view.files self.old) name.now limit → Stood (view.faults self.old) (view.faults self.new) → IsErrOf result StoreFail.TooLong ⊎ IsErrOf result StoreFail.NoMemory }
 
-        // This name was asked for.
-        ensures asked { asked self.old name.now self.new }
+        // This name was asked for, up to this limit.
+        ensures asked { view.asked self.old name.now limit self.new }
 
         // Every other answer leaves the count as it was.
-        ensures steady { UnlessFailed result (faults self.new ≡ faults self.old) }
-        ensures later { faults self.old ≤ faults self.new };
+        ensures steady { UnlessFailed result (view.faults self.new ≡ view.faults self.old) }
+        ensures later { view.faults self.old ≤ view.faults self.new };
 }

@@ -23,7 +23,7 @@ pub struct FileStore<R: Drop> {
 impl<R: Files + Input + AllocGlobal + Clone + Drop> FileStore<R> {
     /// The files that this runtime reaches.
     pub fn new(rt: R) -> FileStore<R>
-        ensures { ⟦<FileStore<R> as Store>⟧.faults result ≡ 0 }
+        ensures { ⟦<FileStore<R> as Store>⟧.view.faults result ≡ 0 }
     {
         FileStore {
             rt,
@@ -34,11 +34,7 @@ impl<R: Files + Input + AllocGlobal + Clone + Drop> FileStore<R> {
 }
 
 impl<R: Files + Input + AllocGlobal + Clone + Drop> Store for FileStore<R> {
-    ghost files = { λ s. None };
-
-    ghost faults = { λ s. s.faults };
-
-    ghost asked = { λ old name new. new.reads ≡ one_more old.reads };
+    ghost view = { record { files = λ s. None; faults = λ s. s.faults; asked = λ old name limit new. new.reads ≡ one_more old.reads } };
 
     fn read(&mut self, name: &str, limit: u64) -> Result<Vec<u8>, StoreFail> {
         let alloc = self.rt.alloc();

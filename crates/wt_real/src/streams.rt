@@ -21,16 +21,14 @@ pub struct StreamSink<W: Drop> {
 impl<W: Write + Drop> StreamSink<W> {
     /// A sink over this writer.
     pub fn new(writer: W) -> StreamSink<W>
-        ensures { ⟦<StreamSink<W> as Sink>⟧.faults result ≡ 0 }
+        ensures { ⟦<StreamSink<W> as Sink>⟧.view.faults result ≡ 0 }
     {
         StreamSink { writer, faults: 0 }
     }
 }
 
 impl<W: Write + Drop> Sink for StreamSink<W> {
-    ghost written = { λ s. None };
-
-    ghost faults = { λ s. s.faults };
+    ghost view = { record { written = λ s. None; faults = λ s. s.faults } };
 
     fn write(&mut self, bytes: &[u8]) -> Result<(), Failed> {
         write_whole(&mut self.writer, bytes, &mut self.faults)

@@ -2,23 +2,17 @@ ghost use Rattle.std.specs.Prelude.{◌≡◌, ◌<◌, ◌++◌, length, codes,
 ghost use Rattle.wt_text.specs.Text.{line_end};
 ghost use Rattle.wt_report.specs.Report.{outcome_text_of, outcome_line_of, number_line_of, head_text};
 ghost use Rattle.wt_outside.specs.Writes.{Writes};
-ghost use Rattle.wt_report.specs.declared.fault.ReportFault.TheVariants.{Failed};
 
-use crate::fault::ReportFault;
 use crate::write::write_line;
 use std::alloc::Global;
-use wt_outside::Sink;
+use wt_outside::{Sink, WriteFault};
 use wt_params::NoMemory;
 use wt_stats::{Head, Outcome};
 use wt_text::Line;
 
 /// Writes what a simulation came to.
-pub(crate) fn write_head<K: Sink>(
-    alloc: Global,
-    head: &Head,
-    out: &mut K,
-) -> Result<(), ReportFault>
-    ensures { Writes Failed (head_text head.now) result (K.faults out.old) (K.faults out.new) (K.written out.old) (K.written out.new) }
+pub(crate) fn write_head<K: Sink>(alloc: Global, head: &Head, out: &mut K) -> Result<(), WriteFault>
+    ensures { Writes (head_text head.now) result K.view out.old out.new }
 {
     write_outcome(alloc, head.outcome, out)?;
     write_number(alloc, b"events ", head.events, out)?;
@@ -26,8 +20,8 @@ pub(crate) fn write_head<K: Sink>(
     write_number(alloc, b"quanta ", head.quanta, out)
 }
 
-fn write_outcome<K: Sink>(alloc: Global, outcome: Outcome, out: &mut K) -> Result<(), ReportFault>
-    ensures { Writes Failed (outcome_line_of outcome) result (K.faults out.old) (K.faults out.new) (K.written out.old) (K.written out.new) }
+fn write_outcome<K: Sink>(alloc: Global, outcome: Outcome, out: &mut K) -> Result<(), WriteFault>
+    ensures { Writes (outcome_line_of outcome) result K.view out.old out.new }
 {
     let line = outcome_line(alloc, outcome)?;
     write_line(&line, out)
@@ -59,9 +53,9 @@ fn write_number<K: Sink>(
     text: &[u8],
     number: u64,
     out: &mut K,
-) -> Result<(), ReportFault>
+) -> Result<(), WriteFault>
     requires { 0 < length text.now }
-    ensures { Writes Failed (number_line_of text.now number) result (K.faults out.old) (K.faults out.new) (K.written out.old) (K.written out.new) }
+    ensures { Writes (number_line_of text.now number) result K.view out.old out.new }
 {
     let line = number_line(alloc, text, number)?;
     write_line(&line, out)

@@ -4,7 +4,6 @@
 //! a part of it promises is `Writes` of `wt_outside`.
 #![tactic(auto)]
 
-mod fault;
 mod head;
 mod memory;
 mod nodes;
@@ -15,10 +14,12 @@ mod total;
 mod trace;
 mod write;
 
-pub use fault::ReportFault;
 pub use options::Options;
 pub use report::write_report;
 pub use trace::traces_are_serial;
+
+/// Why a report wasn't written whole.
+pub use wt_outside::WriteFault as ReportFault;
 
 #[cfg(test)]
 mod tests;

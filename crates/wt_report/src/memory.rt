@@ -3,15 +3,13 @@ ghost use Rattle.std.specs.List.{enumerate_from, list_all};
 ghost use Rattle.wt_report.specs.Memory.{group_line_of, group_of, group_text, groups_text, memory_text, node_memory_text, private_name, private_text, registers_line_of, registers_text};
 ghost use Rattle.wt_report.specs.Stations.{AreStationsOf, IsStationOf, nodes_of, node_of};
 ghost use Rattle.wt_outside.specs.Writes.{Writes};
-ghost use Rattle.wt_report.specs.declared.fault.ReportFault.TheVariants.{Failed};
 
-use crate::fault::ReportFault;
 use crate::shared::write_shared;
 use crate::write::write_line;
 use node::Node;
 use quantum::Station;
 use std::alloc::Global;
-use wt_outside::Sink;
+use wt_outside::{Sink, WriteFault};
 use wt_params::{Machine, NoMemory};
 use wt_text::Line;
 
@@ -24,9 +22,9 @@ pub(crate) fn write_memory<K: Sink>(
     machine: &Machine,
     stations: &[Station],
     out: &mut K,
-) -> Result<(), ReportFault>
+) -> Result<(), WriteFault>
     requires { AreStationsOf machine.now stations.now }
-    ensures { Writes Failed (memory_text machine.now (nodes_of stations.now)) result (K.faults out.old) (K.faults out.new) (K.written out.old) (K.written out.new) }
+    ensures { Writes (memory_text machine.now (nodes_of stations.now)) result K.view out.old out.new }
 {
     write_own(alloc, machine, stations, out)?;
     write_shared(alloc, machine, stations, out)
@@ -38,9 +36,9 @@ fn write_own<K: Sink>(
     machine: &Machine,
     stations: &[Station],
     out: &mut K,
-) -> Result<(), ReportFault>
+) -> Result<(), WriteFault>
     requires { AreStationsOf machine.now stations.now }
-    ensures { Writes Failed (flat_map node_memory_text (enumerate_from 0 (nodes_of stations.now))) result (K.faults out.old) (K.faults out.new) (K.written out.old) (K.written out.new) }
+    ensures { Writes (flat_map node_memory_text (enumerate_from 0 (nodes_of stations.now))) result K.view out.old out.new }
 {
     for (place, station) in stations.iter().enumerate() {
         write_station(alloc, machine, place, station, out)?;
@@ -55,9 +53,9 @@ fn write_station<K: Sink>(
     place: usize,
     station: &Station,
     out: &mut K,
-) -> Result<(), ReportFault>
+) -> Result<(), WriteFault>
     requires { IsStationOf machine.now place station.now }
-    ensures { Writes Failed (node_memory_text (place, node_of station.now)) result (K.faults out.old) (K.faults out.new) (K.written out.old) (K.written out.new) }
+    ensures { Writes (node_memory_text (place, node_of station.now)) result K.view out.old out.new }
 {
     write_node(alloc, machine, place, station.node(), out)
 }
@@ -68,9 +66,9 @@ fn write_node<K: Sink>(
     place: usize,
     node: &Node,
     out: &mut K,
-) -> Result<(), ReportFault>
+) -> Result<(), WriteFault>
     requires { length node.now.state.private ≡ machine.now.private_bytes }
-    ensures { Writes Failed (node_memory_text (place, node.now.state)) result (K.faults out.old) (K.faults out.new) (K.written out.old) (K.written out.new) }
+    ensures { Writes (node_memory_text (place, node.now.state)) result K.view out.old out.new }
 {
     write_registers(alloc, place, node, out)?;
     write_private(alloc, machine, place, node, out)
@@ -82,9 +80,9 @@ fn write_private<K: Sink>(
     place: usize,
     node: &Node,
     out: &mut K,
-) -> Result<(), ReportFault>
+) -> Result<(), WriteFault>
     requires { length node.now.state.private ≡ machine.now.private_bytes }
-    ensures { Writes Failed (private_text (place, node.now.state)) result (K.faults out.old) (K.faults out.new) (K.written out.old) (K.written out.new) }
+    ensures { Writes (private_text (place, node.now.state)) result K.view out.old out.new }
 {
     prove!(machine.private_bytes() <= 4_194_304);
     let name = private_name(alloc, place)?;
@@ -104,8 +102,8 @@ fn write_registers<K: Sink>(
     place: usize,
     node: &Node,
     out: &mut K,
-) -> Result<(), ReportFault>
-    ensures { Writes Failed (registers_line_of place node.now.state) result (K.faults out.old) (K.faults out.new) (K.written out.old) (K.written out.new) }
+) -> Result<(), WriteFault>
+    ensures { Writes (registers_line_of place node.now.state) result K.view out.old out.new }
 {
     let line = registers_line(alloc, place, node)?;
     write_line(&line, out)
@@ -140,10 +138,10 @@ pub(crate) fn write_groups<K: Sink>(
     address: u32,
     bytes: &[u8],
     out: &mut K,
-) -> Result<(), ReportFault>
+) -> Result<(), WriteFault>
     requires named { 0 < length memory.now }
     requires inside { address + length bytes.now ≤ 2 ^ 32 }
-    ensures { Writes Failed (groups_text memory.now address bytes.now) result (K.faults out.old) (K.faults out.new) (K.written out.old) (K.written out.new) }
+    ensures { Writes (groups_text memory.now address bytes.now) result K.view out.old out.new }
 {
     for number in 0..bytes.len() / GROUP_BYTES {
         let at = address + (GROUP_BYTES * number) as u32;
@@ -167,9 +165,9 @@ fn write_group<K: Sink>(
     address: u32,
     group: &[u8],
     out: &mut K,
-) -> Result<(), ReportFault>
+) -> Result<(), WriteFault>
     requires { 0 < length memory.now }
-    ensures { Writes Failed (group_text memory.now address group.now) result (K.faults out.old) (K.faults out.new) (K.written out.old) (K.written out.new) }
+    ensures { Writes (group_text memory.now address group.now) result K.view out.old out.new }
 {
     if is_zero(group) {
         return Ok(());

@@ -5,16 +5,14 @@ ghost use Rattle.node.specs.State.{step_time};
 ghost use Rattle.wt_report.specs.Report.{state_text, processor_text, output_text, node_line_of, count_line_of, out_line_of, node_text, nodes_text};
 ghost use Rattle.wt_report.specs.Stations.{AreStationsOf, IsStationOf, nodes_of, node_of};
 ghost use Rattle.wt_outside.specs.Writes.{Writes};
-ghost use Rattle.wt_report.specs.declared.fault.ReportFault.TheVariants.{Failed};
 
-use crate::fault::ReportFault;
 use crate::total::sums;
 use crate::write::write_line;
 use node::Node;
 use quantum::Station;
 use std::alloc::Global;
 use std::slice;
-use wt_outside::Sink;
+use wt_outside::{Sink, WriteFault};
 use wt_params::{Machine, NoMemory};
 use wt_proto::Mode;
 use wt_text::Line;
@@ -26,9 +24,9 @@ pub(crate) fn write_nodes<K: Sink>(
     machine: &Machine,
     stations: &[Station],
     out: &mut K,
-) -> Result<(), ReportFault>
+) -> Result<(), WriteFault>
     requires { AreStationsOf machine.now stations.now }
-    ensures { Writes Failed (nodes_text machine.now (nodes_of stations.now)) result (K.faults out.old) (K.faults out.new) (K.written out.old) (K.written out.new) }
+    ensures { Writes (nodes_text machine.now (nodes_of stations.now)) result K.view out.old out.new }
 {
     for (place, station) in stations.iter().enumerate() {
         write_station(alloc, machine, place, station, out)?;
@@ -43,9 +41,9 @@ fn write_station<K: Sink>(
     place: usize,
     station: &Station,
     out: &mut K,
-) -> Result<(), ReportFault>
+) -> Result<(), WriteFault>
     requires { IsStationOf machine.now place station.now }
-    ensures { Writes Failed (node_text machine.now (place, node_of station.now)) result (K.faults out.old) (K.faults out.new) (K.written out.old) (K.written out.new) }
+    ensures { Writes (node_text machine.now (place, node_of station.now)) result K.view out.old out.new }
 {
     write_node(alloc, machine, place, station.node(), out)
 }
@@ -56,10 +54,10 @@ fn write_node<K: Sink>(
     place: usize,
     node: &Node,
     out: &mut K,
-) -> Result<(), ReportFault>
+) -> Result<(), WriteFault>
     requires machine { node.now.machine ≡ machine.now }
     requires whole { IsWhole node.now }
-    ensures { Writes Failed (node_text machine.now (place, node.now.state)) result (K.faults out.old) (K.faults out.new) (K.written out.old) (K.written out.new) }
+    ensures { Writes (node_text machine.now (place, node.now.state)) result K.view out.old out.new }
 {
     write_processor(alloc, machine, place, node, out)?;
     write_counts(alloc, place, node, out)?;
@@ -72,10 +70,10 @@ fn write_processor<K: Sink>(
     place: usize,
     node: &Node,
     out: &mut K,
-) -> Result<(), ReportFault>
+) -> Result<(), WriteFault>
     requires machine { node.now.machine ≡ machine.now }
     requires whole { IsWhole node.now }
-    ensures { Writes Failed (node_line_of machine.now place node.now.state) result (K.faults out.old) (K.faults out.new) (K.written out.old) (K.written out.new) }
+    ensures { Writes (node_line_of machine.now place node.now.state) result K.view out.old out.new }
 {
     let line = node_line(alloc, machine, place, node)?;
     write_line(&line, out)
@@ -135,8 +133,8 @@ fn write_counts<K: Sink>(
     place: usize,
     node: &Node,
     out: &mut K,
-) -> Result<(), ReportFault>
-    ensures { Writes Failed (count_line_of place node.now.state) result (K.faults out.old) (K.faults out.new) (K.written out.old) (K.written out.new) }
+) -> Result<(), WriteFault>
+    ensures { Writes (count_line_of place node.now.state) result K.view out.old out.new }
 {
     let line = count_line(alloc, place, node)?;
     write_line(&line, out)
@@ -158,8 +156,8 @@ fn write_output<K: Sink>(
     place: usize,
     node: &Node,
     out: &mut K,
-) -> Result<(), ReportFault>
-    ensures { Writes Failed (out_line_of place node.now.state) result (K.faults out.old) (K.faults out.new) (K.written out.old) (K.written out.new) }
+) -> Result<(), WriteFault>
+    ensures { Writes (out_line_of place node.now.state) result K.view out.old out.new }
 {
     let line = out_line(alloc, place, node)?;
     write_line(&line, out)

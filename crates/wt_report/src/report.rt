@@ -2,9 +2,7 @@ ghost use Rattle.wt_report.specs.Memory.{memory_text};
 ghost use Rattle.wt_report.specs.Report.{body_text, if_asked, report, rest_text, trace_text};
 ghost use Rattle.wt_report.specs.Stations.{AreStationsOf, nodes_of};
 ghost use Rattle.wt_outside.specs.Writes.{Writes};
-ghost use Rattle.wt_report.specs.declared.fault.ReportFault.TheVariants.{Failed};
 
-use crate::fault::ReportFault;
 use crate::head::write_head;
 use crate::memory::write_memory;
 use crate::nodes::write_nodes;
@@ -13,7 +11,7 @@ use crate::total::write_total;
 use crate::trace::write_trace;
 use quantum::Station;
 use std::alloc::Global;
-use wt_outside::Sink;
+use wt_outside::{Sink, WriteFault};
 use wt_params::Machine;
 use wt_stats::Head;
 
@@ -26,9 +24,9 @@ pub fn write_report<K: Sink>(
     stations: &[Station],
     options: &Options,
     out: &mut K,
-) -> Result<(), ReportFault>
+) -> Result<(), WriteFault>
     requires { AreStationsOf machine.now stations.now }
-    ensures { Writes Failed (report machine.now head.now (nodes_of stations.now) options.now) result (K.faults out.old) (K.faults out.new) (K.written out.old) (K.written out.new) }
+    ensures { Writes (report machine.now head.now (nodes_of stations.now) options.now) result K.view out.old out.new }
 {
     write_head(alloc, head, out)?;
     write_rest(alloc, machine, stations, options, out)
@@ -41,9 +39,9 @@ fn write_rest<K: Sink>(
     stations: &[Station],
     options: &Options,
     out: &mut K,
-) -> Result<(), ReportFault>
+) -> Result<(), WriteFault>
     requires { AreStationsOf machine.now stations.now }
-    ensures { Writes Failed (rest_text machine.now (nodes_of stations.now) options.now) result (K.faults out.old) (K.faults out.new) (K.written out.old) (K.written out.new) }
+    ensures { Writes (rest_text machine.now (nodes_of stations.now) options.now) result K.view out.old out.new }
 {
     if options.summary {
         write_total(alloc, stations, out)
@@ -59,9 +57,9 @@ fn write_body<K: Sink>(
     stations: &[Station],
     options: &Options,
     out: &mut K,
-) -> Result<(), ReportFault>
+) -> Result<(), WriteFault>
     requires { AreStationsOf machine.now stations.now }
-    ensures { Writes Failed (body_text machine.now (nodes_of stations.now) options.now) result (K.faults out.old) (K.faults out.new) (K.written out.old) (K.written out.new) }
+    ensures { Writes (body_text machine.now (nodes_of stations.now) options.now) result K.view out.old out.new }
 {
     write_trace_if(alloc, machine, stations, options.trace, out)?;
     write_nodes(alloc, machine, stations, out)?;
@@ -76,9 +74,9 @@ fn write_trace_if<K: Sink>(
     stations: &[Station],
     asked: bool,
     out: &mut K,
-) -> Result<(), ReportFault>
+) -> Result<(), WriteFault>
     requires { AreStationsOf machine.now stations.now }
-    ensures { Writes Failed (if_asked asked (trace_text machine.now (nodes_of stations.now))) result (K.faults out.old) (K.faults out.new) (K.written out.old) (K.written out.new) }
+    ensures { Writes (if_asked asked (trace_text machine.now (nodes_of stations.now))) result K.view out.old out.new }
 {
     if asked {
         write_trace(alloc, machine, stations, out)
@@ -94,9 +92,9 @@ fn write_memory_if<K: Sink>(
     stations: &[Station],
     asked: bool,
     out: &mut K,
-) -> Result<(), ReportFault>
+) -> Result<(), WriteFault>
     requires { AreStationsOf machine.now stations.now }
-    ensures { Writes Failed (if_asked asked (memory_text machine.now (nodes_of stations.now))) result (K.faults out.old) (K.faults out.new) (K.written out.old) (K.written out.new) }
+    ensures { Writes (if_asked asked (memory_text machine.now (nodes_of stations.now))) result K.view out.old out.new }
 {
     if asked {
         write_memory(alloc, machine, stations, out)

@@ -6,15 +6,13 @@ ghost use Rattle.quantum.specs.Stations.{IsUnbroken, machine_of};
 ghost use Rattle.wt_report.specs.Memory.{block_text, first_copy, home_memory, shared_bytes, shared_text, writable_copy};
 ghost use Rattle.wt_report.specs.Stations.{AreStationsOf, IsStationOf, node_of, nodes_of};
 ghost use Rattle.wt_outside.specs.Writes.{Writes};
-ghost use Rattle.wt_report.specs.declared.fault.ReportFault.TheVariants.{Failed};
 
-use crate::fault::ReportFault;
 use crate::memory::write_groups;
 use block_tags::Tag;
 use node::Node;
 use quantum::Station;
 use std::alloc::Global;
-use wt_outside::Sink;
+use wt_outside::{Sink, WriteFault};
 use wt_params::Machine;
 
 /// Writes shared memory.
@@ -23,9 +21,9 @@ pub(crate) fn write_shared<K: Sink>(
     machine: &Machine,
     stations: &[Station],
     out: &mut K,
-) -> Result<(), ReportFault>
+) -> Result<(), WriteFault>
     requires { AreStationsOf machine.now stations.now }
-    ensures { Writes Failed (shared_text machine.now (nodes_of stations.now)) result (K.faults out.old) (K.faults out.new) (K.written out.old) (K.written out.new) }
+    ensures { Writes (shared_text machine.now (nodes_of stations.now)) result K.view out.old out.new }
 {
     for block in 0..machine.blocks() as u32 {
         write_block(alloc, machine, stations, block, out)?;
@@ -39,10 +37,10 @@ fn write_block<K: Sink>(
     stations: &[Station],
     block: u32,
     out: &mut K,
-) -> Result<(), ReportFault>
+) -> Result<(), WriteFault>
     requires stations { AreStationsOf machine.now stations.now }
     requires exists { block < machine.now.blocks }
-    ensures { Writes Failed (block_text machine.now (nodes_of stations.now) block) result (K.faults out.old) (K.faults out.new) (K.written out.old) (K.written out.new) }
+    ensures { Writes (block_text machine.now (nodes_of stations.now) block) result K.view out.old out.new }
 {
     // So that no address wraps.
     prove!(machine.blocks() <= 65_536);

@@ -2,13 +2,11 @@ ghost use Rattle.std.specs.Prelude.{◌≡◌, ◌++◌, map, IfOk, OnOk};
 ghost use Rattle.wt_report.specs.Report.{counters_of, counts_text, totals_text, total_line_of};
 ghost use Rattle.wt_report.specs.Stations.{nodes_of};
 ghost use Rattle.wt_outside.specs.Writes.{Writes};
-ghost use Rattle.wt_report.specs.declared.fault.ReportFault.TheVariants.{Failed};
 
-use crate::fault::ReportFault;
 use crate::write::write_line;
 use quantum::Station;
 use std::alloc::Global;
-use wt_outside::Sink;
+use wt_outside::{Sink, WriteFault};
 use wt_params::NoMemory;
 use wt_stats::{COUNTER_NAMES, Counters, totals};
 use wt_text::Line;
@@ -18,8 +16,8 @@ pub(crate) fn write_total<K: Sink>(
     alloc: Global,
     stations: &[Station],
     out: &mut K,
-) -> Result<(), ReportFault>
-    ensures { Writes Failed (total_line_of (nodes_of stations.now)) result (K.faults out.old) (K.faults out.new) (K.written out.old) (K.written out.new) }
+) -> Result<(), WriteFault>
+    ensures { Writes (total_line_of (nodes_of stations.now)) result K.view out.old out.new }
 {
     let line = total_line(alloc, stations)?;
     write_line(&line, out)

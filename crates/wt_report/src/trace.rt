@@ -6,13 +6,11 @@ ghost use Rattle.wt_report.specs.Report.{logs_of, trace_text};
 ghost use Rattle.wt_report.specs.Stations.{AreStationsOf, nodes_of};
 ghost use Rattle.wt_report.specs.Trace.{TraceIsSerial};
 ghost use Rattle.wt_outside.specs.Writes.{Writes};
-ghost use Rattle.wt_report.specs.declared.fault.ReportFault.TheVariants.{Failed};
 
-use crate::fault::ReportFault;
 use crate::write::write_line;
 use quantum::Station;
 use std::alloc::Global;
-use wt_outside::Sink;
+use wt_outside::{Sink, WriteFault};
 use wt_params::{Machine, NoMemory};
 use wt_trace::{Log, NodeLog, Record, line, merge};
 
@@ -22,9 +20,9 @@ pub(crate) fn write_trace<K: Sink>(
     machine: &Machine,
     stations: &[Station],
     out: &mut K,
-) -> Result<(), ReportFault>
+) -> Result<(), WriteFault>
     requires { AreStationsOf machine.now stations.now }
-    ensures { Writes Failed (trace_text machine.now (nodes_of stations.now)) result (K.faults out.old) (K.faults out.new) (K.written out.old) (K.written out.new) }
+    ensures { Writes (trace_text machine.now (nodes_of stations.now)) result K.view out.old out.new }
 {
     let events = merged(alloc, stations)?;
     write_events(alloc, machine, &events, out)
@@ -57,9 +55,9 @@ fn write_events<K: Sink>(
     machine: &Machine,
     events: &NodeLog,
     out: &mut K,
-) -> Result<(), ReportFault>
+) -> Result<(), WriteFault>
     requires { All (RecordFits machine.now) events.now }
-    ensures { Writes Failed (flat_map (line_of machine.now) events.now) result (K.faults out.old) (K.faults out.new) (K.written out.old) (K.written out.new) }
+    ensures { Writes (flat_map (line_of machine.now) events.now) result K.view out.old out.new }
 {
     let count = events.len();
     let mut i = 0;
@@ -76,9 +74,9 @@ fn write_event<K: Sink>(
     machine: &Machine,
     item: &Record,
     out: &mut K,
-) -> Result<(), ReportFault>
+) -> Result<(), WriteFault>
     requires { RecordFits machine.now item.now }
-    ensures { Writes Failed (line_of machine.now item.now) result (K.faults out.old) (K.faults out.new) (K.written out.old) (K.written out.new) }
+    ensures { Writes (line_of machine.now item.now) result K.view out.old out.new }
 {
     let line = line(alloc, item, machine)?;
     write_line(&line, out)

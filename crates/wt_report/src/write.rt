@@ -1,16 +1,14 @@
 ghost use Rattle.wt_outside.specs.Writes.{Writes};
-ghost use Rattle.wt_report.specs.declared.fault.ReportFault.TheVariants.{Failed};
 
-use crate::fault::ReportFault;
-use wt_outside::Sink;
+use wt_outside::{Sink, WriteFault};
 use wt_text::Line;
 
 /// Writes a line by one call of the sink.
-pub(crate) fn write_line<K: Sink>(line: &Line, out: &mut K) -> Result<(), ReportFault>
-    ensures { Writes Failed line.now result (K.faults out.old) (K.faults out.new) (K.written out.old) (K.written out.new) }
+pub(crate) fn write_line<K: Sink>(line: &Line, out: &mut K) -> Result<(), WriteFault>
+    ensures { Writes line.now result K.view out.old out.new }
 {
     match out.write(line.as_bytes()) {
         Ok(()) => Ok(()),
-        Err(_) => Err(ReportFault::Failed),
+        Err(_) => Err(WriteFault::Failed),
     }
 }

@@ -1,12 +1,13 @@
 -- What nodes count, the names of the counters in order, and the sums over nodes. Own.
-use Rattle.std.specs.Prelude.{ℕ, List, [], ◌∷◌, map, sum_by}
-use Rattle.wt_stats.specs.declared.counters.TheConstants.{COUNTER_NAMES}
+use Rattle.std.specs.Prelude.{ℕ, List, [], ◌∷◌, codes, sum_by}
 use Rattle.wt_stats.specs.declared.counters.Counters.{Counters}
 use Rattle.wt_stats.specs.declared.numbers.Totals.{Totals}
 
 -- the names of the counters, in the order in which they are shown
 abbrev pub counter_names : List (List ℕ)
-counter_names = map (λ name. name.now) COUNTER_NAMES
+counter_names =
+    codes "steps" ∷ codes "messages" ∷ codes "done" ∷ codes "hits" ∷ codes "misses" ∷ codes "upgrades" ∷ codes "replaced"
+    ∷ codes "checkins" ∷ codes "invs" ∷ codes "traps" ∷ codes "trap_cycles" ∷ codes "barriers" ∷ codes "stray" ∷ codes "sent" ∷ []
 
 -- the sums in the order of the names
 abbrev pub values_of : Totals → List ℕ

@@ -1,3 +1,7 @@
+ghost use Rattle.std.specs.Prelude.{◌≡◌, map};
+ghost use Rattle.wt_stats.specs.declared.counters.TheConstants.{COUNTER_NAMES};
+ghost use Rattle.wt_stats.specs.Counts.{counter_names};
+
 /// The names of the counters, in the order in which they are shown.
 pub const COUNTER_NAMES: [&[u8]; 14] = [
     b"steps",
@@ -15,6 +19,11 @@ pub const COUNTER_NAMES: [&[u8]; 14] = [
     b"stray",
     b"sent",
 ];
+
+/// The names are those of the definition, in its order.
+pub fn counters_are_named()
+    ensures { map (λ name. name.now) COUNTER_NAMES ≡ counter_names }
+{}
 
 /// What a node counts.
 #[derive(Clone, Copy, Debug, PartialEq, Eq, Default)]

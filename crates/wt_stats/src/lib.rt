@@ -8,7 +8,7 @@ mod head;
 mod numbers;
 mod sums;
 
-pub use counters::{COUNTER_NAMES, Counters};
+pub use counters::{COUNTER_NAMES, Counters, counters_are_named};
 pub use head::{Head, Outcome};
 pub use numbers::Totals;
 pub use sums::totals;

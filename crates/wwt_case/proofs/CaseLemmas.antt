@@ -13,71 +13,72 @@ use Rattle.wwt_words.specs.declared.command.Command.{Command}
 use Rattle.wwt_words.specs.declared.command.Command.TheVariants as commands
 use Rattle.wwt_words.specs.Words.{command_of}
 use Rattle.gen_load.specs.Generated.{generated}
+use Rattle.wt_outside.specs.Views.{StoreView}
 use Rattle.wwt_case.specs.declared.job.Described.{Described}
 use Rattle.wwt_case.specs.declared.job.Job.{Job}
 use Rattle.wwt_case.specs.declared.refusal.Refusal.{Refusal}
 use Rattle.wwt_case.specs.Programs.{images_from, names_from}
 use Rattle.wwt_case.specs.Case.{case_of, names_of, command_case, command_names, check_case, run_case, generated_case, generated_names, described_case, described_names, dis_case, flat_case, description_case, description_or, machine_case, input_name, IsFlat}
-use Rattle.wwt_case.specs.Reading.{Answers, Store, Reads}
+use Rattle.wwt_case.specs.Reading.{Answers, Reads}
 use Rattle.wwt_case.proofs.ReadLemmas.{reads_then, reads_stopped}
 
 -- the images of a description, from none on
-pub all_images : {S : Type 0} (description : Description) (found : List Image) (entries : List ImageSpec) (store : Store S) (result : Result (List Image) Refusal) → found ≡ [] → entries ≡ description.images → Reads (images_from found 0 entries) (names_from 0 entries) store result → Reads (images_from [] 0 description.images) (names_from 0 description.images) store result
-all_images description found entries store result none all read =
-    subst (λ (f : List Image). Reads (images_from f 0 description.images) (names_from 0 description.images) store result) none
-    (subst (λ (e : List ImageSpec). Reads (images_from found 0 e) (names_from 0 e) store result) all read)
+pub all_images : {S : Type 0} (description : Description) (found : List Image) (entries : List ImageSpec) (view : StoreView S) (old new : S) (result : Result (List Image) Refusal) → found ≡ [] → entries ≡ description.images → Reads (images_from found 0 entries) (names_from 0 entries) view old new result → Reads (images_from [] 0 description.images) (names_from 0 description.images) view old new result
+all_images description found entries view old new result none all read =
+    subst (λ (f : List Image). Reads (images_from f 0 description.images) (names_from 0 description.images) view old new result) none
+    (subst (λ (e : List ImageSpec). Reads (images_from found 0 e) (names_from 0 e) view old new result) all read)
 
 -- a description, and then its machine
-pub described_done : {S : Type 0} (name : List ℕ) (description : Description) (files after : Option Files) (faults : S → ℕ) (asked : S → List ℕ → S → Type 0) (s0 s1 s2 : S) (result : Result Described Refusal) → after ≡ files
-    → Reads (description_case name) (λ _. name ∷ []) (record { files = files; faults = faults; asked = asked; before = s0; now = s1 }) (Ok description)
-    → Reads (machine_case description) (names_from 0 description.images) (record { files = after; faults = faults; asked = asked; before = s1; now = s2 }) result
-    → Reads (described_case name) (described_names name) (record { files = files; faults = faults; asked = asked; before = s0; now = s2 }) result
-described_done name description files after faults asked s0 s1 s2 result same first second =
-    reads_then (description_case name) (λ _. name ∷ []) machine_case (λ (d : Description) given. names_from 0 d.images given) files faults asked s0 s1 s2 description result
-    first (subst (λ (t : Option Files). Reads (machine_case description) (names_from 0 description.images) (record { files = t; faults = faults; asked = asked; before = s1; now = s2 }) result) same second)
+pub described_done : {S : Type 0} (name : List ℕ) (description : Description) (view : StoreView S) (s0 s1 s2 : S) (result : Result Described Refusal)
+    → Reads (description_case name) (λ _. name ∷ []) view s0 s1 (Ok description)
+    → Reads (machine_case description) (names_from 0 description.images) view s1 s2 result
+    → Reads (described_case name) (described_names name) view s0 s2 result
+described_done name description view s0 s1 s2 result first second =
+    reads_then (description_case name) (λ _. name ∷ []) machine_case (λ (d : Description) given. names_from 0 d.images given) view s0 s1 s2 description result
+    first second
 
-pub described_stopped : {S : Type 0} (name : List ℕ) (store : Store S) (refusal : Refusal) → Reads (description_case name) (λ _. name ∷ []) store (Err refusal) → Reads (described_case name) (described_names name) store (Err refusal)
-described_stopped name store refusal first =
-    reads_stopped (description_case name) (λ _. name ∷ []) machine_case (λ (d : Description) given. names_from 0 d.images given) store refusal first
+pub described_stopped : {S : Type 0} (name : List ℕ) (view : StoreView S) (old new : S) (refusal : Refusal) → Reads (description_case name) (λ _. name ∷ []) view old new (Err refusal) → Reads (described_case name) (described_names name) view old new (Err refusal)
+described_stopped name view old new refusal first =
+    reads_stopped (description_case name) (λ _. name ∷ []) machine_case (λ (d : Description) given. names_from 0 d.images given) view old new refusal first
 
 -- the machine of a generated description
-pub generated_is : {S : Type 0} (number : ℕ) (description : Description) (store : Store S) (result : Result Described Refusal) → description ≡ generated number → Reads (machine_case description) (names_from 0 description.images) store result →
-    Reads (machine_case (generated number)) (generated_names number) store result
-generated_is number description store result is read = subst (λ (d : Description). Reads (machine_case d) (names_from 0 d.images) store result) is read
+pub generated_is : {S : Type 0} (number : ℕ) (description : Description) (view : StoreView S) (old new : S) (result : Result Described Refusal) → description ≡ generated number → Reads (machine_case description) (names_from 0 description.images) view old new result →
+    Reads (machine_case (generated number)) (generated_names number) view old new result
+generated_is number description view old new result is read = subst (λ (d : Description). Reads (machine_case d) (names_from 0 d.images) view old new result) is read
 
 -- the commands
-pub of_check : {S : Type 0} (command : Command) (machine name : List ℕ) (store : Store S) (result : Result Job Refusal) → command ≡ commands.Check machine → name ≡ machine → Reads (check_case name) (described_names name) store result → Reads (command_case (Some command)) (command_names (Some command)) store result
-of_check command machine name store result is same read =
-    subst (λ (c : Command). Reads (command_case (Some c)) (command_names (Some c)) store result) (sym is)
-    (subst (λ (n : List ℕ). Reads (check_case n) (described_names n) store result) same read)
+pub of_check : {S : Type 0} (command : Command) (machine name : List ℕ) (view : StoreView S) (old new : S) (result : Result Job Refusal) → command ≡ commands.Check machine → name ≡ machine → Reads (check_case name) (described_names name) view old new result → Reads (command_case (Some command)) (command_names (Some command)) view old new result
+of_check command machine name view old new result is same read =
+    subst (λ (c : Command). Reads (command_case (Some c)) (command_names (Some c)) view old new result) (sym is)
+    (subst (λ (n : List ℕ). Reads (check_case n) (described_names n) view old new result) same read)
 
 -- a run or a load by one worker
-pub of_run : {S : Type 0} (command : Command) (workers : ℕ) (trace memory : Bool) (budget : Option ℕ) (machine name : List ℕ) (store : Store S) (result : Result Job Refusal) → command ≡ commands.Run workers trace memory budget machine → workers ≡ 1 → name ≡ machine →
-    Reads (run_case name budget trace memory) (described_names name) store result → Reads (command_case (Some command)) (command_names (Some command)) store result
-of_run command workers trace memory budget machine name store result is one same read =
-    subst (λ (c : Command). Reads (command_case (Some c)) (command_names (Some c)) store result) (sym is)
-    (subst (λ (n : ℕ). Reads (command_case (Some (commands.Run n trace memory budget machine))) (command_names (Some (commands.Run n trace memory budget machine))) store result) (sym one)
-    (subst (λ (n : List ℕ). Reads (run_case n budget trace memory) (described_names n) store result) same read))
+pub of_run : {S : Type 0} (command : Command) (workers : ℕ) (trace memory : Bool) (budget : Option ℕ) (machine name : List ℕ) (view : StoreView S) (old new : S) (result : Result Job Refusal) → command ≡ commands.Run workers trace memory budget machine → workers ≡ 1 → name ≡ machine →
+    Reads (run_case name budget trace memory) (described_names name) view old new result → Reads (command_case (Some command)) (command_names (Some command)) view old new result
+of_run command workers trace memory budget machine name view old new result is one same read =
+    subst (λ (c : Command). Reads (command_case (Some c)) (command_names (Some c)) view old new result) (sym is)
+    (subst (λ (n : ℕ). Reads (command_case (Some (commands.Run n trace memory budget machine))) (command_names (Some (commands.Run n trace memory budget machine))) view old new result) (sym one)
+    (subst (λ (n : List ℕ). Reads (run_case n budget trace memory) (described_names n) view old new result) same read))
 
-pub of_load : {S : Type 0} (command : Command) (number workers : ℕ) (store : Store S) (result : Result Job Refusal) → command ≡ commands.Load number workers → workers ≡ 1 →
-    Reads (generated_case number) (generated_names number) store result → Reads (command_case (Some command)) (command_names (Some command)) store result
-of_load command number workers store result is one read =
-    subst (λ (c : Command). Reads (command_case (Some c)) (command_names (Some c)) store result) (sym is)
-    (subst (λ (n : ℕ). Reads (command_case (Some (commands.Load number n))) (command_names (Some (commands.Load number n))) store result) (sym one) read)
+pub of_load : {S : Type 0} (command : Command) (number workers : ℕ) (view : StoreView S) (old new : S) (result : Result Job Refusal) → command ≡ commands.Load number workers → workers ≡ 1 →
+    Reads (generated_case number) (generated_names number) view old new result → Reads (command_case (Some command)) (command_names (Some command)) view old new result
+of_load command number workers view old new result is one read =
+    subst (λ (c : Command). Reads (command_case (Some c)) (command_names (Some c)) view old new result) (sym is)
+    (subst (λ (n : ℕ). Reads (command_case (Some (commands.Load number n))) (command_names (Some (commands.Load number n))) view old new result) (sym one) read)
 
-pub of_dis : {S : Type 0} (command : Command) (image name : List ℕ) (store : Store S) (result : Result Job Refusal) → command ≡ commands.Dis image → name ≡ image → Reads (dis_case name) (λ _. name ∷ []) store result → Reads (command_case (Some command)) (command_names (Some command)) store result
-of_dis command image name store result is same read =
-    subst (λ (c : Command). Reads (command_case (Some c)) (command_names (Some c)) store result) (sym is)
-    (subst (λ (n : List ℕ). Reads (dis_case n) (λ _. n ∷ []) store result) same read)
+pub of_dis : {S : Type 0} (command : Command) (image name : List ℕ) (view : StoreView S) (old new : S) (result : Result Job Refusal) → command ≡ commands.Dis image → name ≡ image → Reads (dis_case name) (λ _. name ∷ []) view old new result → Reads (command_case (Some command)) (command_names (Some command)) view old new result
+of_dis command image name view old new result is same read =
+    subst (λ (c : Command). Reads (command_case (Some c)) (command_names (Some c)) view old new result) (sym is)
+    (subst (λ (n : List ℕ). Reads (dis_case n) (λ _. n ∷ []) view old new result) same read)
 
-pub of_flat : {S : Type 0} (command : Command) (store : Store S) (result : Result Job Refusal) → command ≡ commands.Flat → Reads flat_case (λ _. input_name ∷ []) store result → Reads (command_case (Some command)) (command_names (Some command)) store result
-of_flat command store result is read =
-    subst (λ (c : Command). Reads (command_case (Some c)) (command_names (Some c)) store result) (sym is) read
+pub of_flat : {S : Type 0} (command : Command) (view : StoreView S) (old new : S) (result : Result Job Refusal) → command ≡ commands.Flat → Reads flat_case (λ _. input_name ∷ []) view old new result → Reads (command_case (Some command)) (command_names (Some command)) view old new result
+of_flat command view old new result is read =
+    subst (λ (c : Command). Reads (command_case (Some c)) (command_names (Some c)) view old new result) (sym is) read
 
 -- the words of a command
-pub of_words : {S : Type 0} (words : List (List ℕ)) (command : Command) (store : Store S) (result : Result Job Refusal) → command_of words ≡ Some command → Reads (command_case (Some command)) (command_names (Some command)) store result → Reads (case_of words) (names_of words) store result
-of_words words command store result is read =
-    subst (λ (c : Option Command). Reads (command_case c) (command_names c) store result) (sym is) read
+pub of_words : {S : Type 0} (words : List (List ℕ)) (command : Command) (view : StoreView S) (old new : S) (result : Result Job Refusal) → command_of words ≡ Some command → Reads (command_case (Some command)) (command_names (Some command)) view old new result → Reads (case_of words) (names_of words) view old new result
+of_words words command view old new result is read =
+    subst (λ (c : Option Command). Reads (command_case c) (command_names c) view old new result) (sym is) read
 
 -- flat bytes are loaded alone
 pub loaded_flat : (machine : MachineParts) (bytes : List ℕ) (image : Image) (none pushed images : List Image) (loaded : LoadedImages) → machine ≡ flat_machine → image ≡ flat_image bytes 0 → none ≡ [] → pushed ≡ none ++ image ∷ [] → images ≡ pushed → loaded ≡ loaded_with machine images → IsFlat loaded

@@ -8,11 +8,12 @@ use Rattle.wt_outside.proofs.AskedLemmas.{asked_once, asked_then}
 use Rattle.wt_outside.proofs.FaultLemmas.{not_both, stood_later, rose_later}
 use Rattle.std.proofs.lemmas.List.{append-nil}
 use Rattle.std.proofs.lemmas.List.Elements.{Contains-append_left, Contains-append_right}
+use Rattle.wt_outside.specs.Views.{StoreView}
 use Rattle.wwt_case.specs.declared.refusal.Refusal.{Refusal}
 use Rattle.wwt_case.specs.declared.refusal.Refusal.TheVariants.{Read, NoMemory}
 use Rattle.wwt_case.specs.declared.refusal.FileKind.{FileKind}
-use Rattle.wwt_case.specs.Files.{file_of, bytes_of, and_then, names_then}
-use Rattle.wwt_case.specs.Reading.{Answers, Store, Asks, IsThrough, Reads}
+use Rattle.wwt_case.specs.Files.{file_of, bytes_of, and_then, names_then, read_limit}
+use Rattle.wwt_case.specs.Reading.{Answers, Asks, IsThrough, Reads}
 
 missing_file : (name : List ℕ) (kind : FileKind) (found : Option (List ℕ)) → IsNone found → bytes_of name kind found ≡ Err (Read name)
 missing_file name kind None none = refl
@@ -24,88 +25,86 @@ missing_told name kind told files is missing =
 
 module _ {S : Type 0} where
   -- one name was asked for, as it was spelt
-  pub asks_one : (spelt name : List ℕ) (store : Store S) (all : Type 0) → spelt ≡ name → store.asked store.before spelt store.now → Asks (λ _. name ∷ []) store all
-  asks_one spelt name store all same asked = record {
+  pub asks_one : (spelt name : List ℕ) (view : StoreView S) (old new : S) (all : Type 0) → spelt ≡ name → view.asked old spelt read_limit new → Asks (λ _. name ∷ []) view old new all
+  asks_one spelt name view old new all same asked = record {
     asked = name ∷ [];
-    are_asked = asked_once store.faults store.asked store.before name store.now (subst (λ (n : List ℕ). store.asked store.before n store.now) same asked);
+    are_asked = asked_once view read_limit old name new (subst (λ (n : List ℕ). view.asked old n read_limit new) same asked);
     part = λ files told. ([], refl);
     whole = λ files told through. refl;
   }
 
   -- a read that failed
-  pub failed_read : (name : List ℕ) (kind : FileKind) (store : Store S) → Rose (store.faults store.before) (store.faults store.now) ⊎ IsMissing store.files name → store.asked store.before name store.now → store.faults store.before ≤ store.faults store.now → Reads (file_of name kind) (λ _. name ∷ []) store (Err (Read name))
-  failed_read name kind store failed asked later = record {
+  pub failed_read : (name : List ℕ) (kind : FileKind) (view : StoreView S) (old new : S) → Rose (view.faults old) (view.faults new) ⊎ IsMissing (view.files old) name → view.asked old name read_limit new → view.faults old ≤ view.faults new → view.files new ≡ view.files old → Reads (file_of name kind) (λ _. name ∷ []) view old new (Err (Read name))
+  failed_read name kind view old new failed asked later kept = record {
     found = λ files told. tt;
     refused = λ files told stood. elim failed [
       | inl rose ↦ absurd (not_both _ _ rose stood)
-      | inr missing ↦ inr (missing_told name kind store.files files told missing)
+      | inr missing ↦ inr (missing_told name kind (view.files old) files told missing)
     ];
     named = λ files other told same. (0, omega arith, cc);
-    once = asks_one name name store _ refl asked;
-    unread = λ other same. let is : name ≡ other = cc in subst (λ (n : List ℕ). Rose (store.faults store.before) (store.faults store.now) ⊎ IsMissing store.files n) is failed;
+    once = asks_one name name view old new _ refl asked;
+    unread = λ other same. let is : name ≡ other = cc in subst (λ (n : List ℕ). Rose (view.faults old) (view.faults new) ⊎ IsMissing (view.files old) n) is failed;
     steady = λ other. absurd (other name refl);
     later = later;
+    kept = kept;
   }
 
--- a store between two calls
-abbrev span : {S : Type 0} → Option Files → (S → ℕ) → (S → List ℕ → S → Type 0) → S → S → Store S
-span files faults asked before now = record { files = files; faults = faults; asked = asked; before = before; now = now }
-
 module _ {S A B : Type 0} (wanted : Files → Result A Refusal) (names : Files → List (List ℕ)) (next : A → Files → Result B Refusal) (next_names : A → Files → List (List ℕ)) where
-  through_later : (files : Option Files) (faults : S → ℕ) (asked : S → List ℕ → S → Type 0) (s0 s1 s2 : S) (result : Result B Refusal) → faults s0 ≤ faults s1 → IsThrough (span files faults asked s0 s2) result → IsThrough (span files faults asked s1 s2) result
-  through_later files faults asked s0 s1 s2 (Ok value) later through = tt
-  through_later files faults asked s0 s1 s2 (Err refusal) later through = (stood_later (faults s0) (faults s1) (faults s2) through.0 later, through.1)
+  through_later : (view : StoreView S) (s0 s1 s2 : S) (result : Result B Refusal) → view.faults s0 ≤ view.faults s1 → IsThrough view s0 s2 result → IsThrough view s1 s2 result
+  through_later view s0 s1 s2 (Ok value) later through = tt
+  through_later view s0 s1 s2 (Err refusal) later through = (stood_later (view.faults s0) (view.faults s1) (view.faults s2) through.0 later, through.1)
 
-  asks_then : (files : Option Files) (faults : S → ℕ) (asked : S → List ℕ → S → Type 0) (s0 s1 s2 : S) (value : A) (result : Result B Refusal)
-      → Reads wanted names (span files faults asked s0 s1) (Ok value)
-      → Reads (next value) (next_names value) (span files faults asked s1 s2) result
-      → Asks (λ given. names given ++ names_then (wanted given) (λ a. next_names a given)) (span files faults asked s0 s2) (IsThrough (span files faults asked s0 s2) result)
-  asks_then files faults asked s0 s1 s2 value result first second =
+  asks_then : (view : StoreView S) (s0 s1 s2 : S) (value : A) (result : Result B Refusal)
+      → Reads wanted names view s0 s1 (Ok value)
+      → Reads (next value) (next_names value) view s1 s2 result
+      → Asks (λ given. names given ++ names_then (wanted given) (λ a. next_names a given)) view s0 s2 (IsThrough view s0 s2 result)
+  asks_then view s0 s1 s2 value result first second =
       let after = λ (given : Files) (e : wanted given ≡ Ok value). ap (λ (r : Result A Refusal). names_then r (λ a. next_names a given)) e in
       record {
         asked = first.once.asked ++ second.once.asked;
-        are_asked = asked_then faults asked s0 s1 s2 first.once.asked second.once.asked first.once.are_asked (first.steady (λ name e. cc)) second.once.are_asked;
+        are_asked = asked_then view read_limit s0 s1 s2 first.once.asked second.once.asked first.once.are_asked (first.steady (λ name e. cc)) second.once.are_asked;
         part = λ given told.
-            let rest = second.once.part given told in (
+            let rest = second.once.part given (first.kept ∙ told) in (
               rest.0,
               ap₂ (λ (x y : List (List ℕ)). x ++ y) (sym (first.once.whole given told tt)) (after given (first.found given told) ∙ rest.1)
                   ∙ sym (append_assoc first.once.asked second.once.asked rest.0),
             );
         whole = λ given told through.
             ap₂ (λ (x y : List (List ℕ)). x ++ y) (first.once.whole given told tt)
-            (second.once.whole given told (through_later files faults asked s0 s1 s2 result first.later through) ∙ sym (after given (first.found given told)));
+            (second.once.whole given (first.kept ∙ told) (through_later view s0 s1 s2 result first.later through) ∙ sym (after given (first.found given told)));
       }
 
   -- one read, and then another
-  pub reads_then : (files : Option Files) (faults : S → ℕ) (asked : S → List ℕ → S → Type 0) (s0 s1 s2 : S) (value : A) (result : Result B Refusal)
-      → Reads wanted names (record { files = files; faults = faults; asked = asked; before = s0; now = s1 }) (Ok value)
-      → Reads (next value) (next_names value) (record { files = files; faults = faults; asked = asked; before = s1; now = s2 }) result
-      → Reads (λ given. and_then (wanted given) (λ a. next a given)) (λ given. names given ++ names_then (wanted given) (λ a. next_names a given)) (record { files = files; faults = faults; asked = asked; before = s0; now = s2 }) result
-  reads_then files faults asked s0 s1 s2 value result first second =
+  pub reads_then : (view : StoreView S) (s0 s1 s2 : S) (value : A) (result : Result B Refusal)
+      → Reads wanted names view s0 s1 (Ok value)
+      → Reads (next value) (next_names value) view s1 s2 result
+      → Reads (λ given. and_then (wanted given) (λ a. next a given)) (λ given. names given ++ names_then (wanted given) (λ a. next_names a given)) view s0 s2 result
+  reads_then view s0 s1 s2 value result first second =
       let both = λ (given : Files) (e : wanted given ≡ Ok value). ap (λ (r : Result A Refusal). and_then r (λ a. next a given)) e in
       let after = λ (given : Files) (e : wanted given ≡ Ok value). ap (λ (r : Result A Refusal). names_then r (λ a. next_names a given)) e in
       record {
-        found = λ given told. subst (λ (t : Result B Refusal). IfOk result (λ v. t ≡ Ok v)) (sym (both given (first.found given told))) (second.found given told);
+        found = λ given told. subst (λ (t : Result B Refusal). IfOk result (λ v. t ≡ Ok v)) (sym (both given (first.found given told))) (second.found given (first.kept ∙ told));
         refused = λ given told stood.
             subst (λ (t : Result B Refusal). IfErr result (λ refusal. (refusal ≡ NoMemory) ⊎ (t ≡ Err refusal))) (sym (both given (first.found given told)))
-            (second.refused given told (stood_later (faults s0) (faults s1) (faults s2) stood first.later));
+            (second.refused given (first.kept ∙ told) (stood_later (view.faults s0) (view.faults s1) (view.faults s2) stood first.later));
         named = λ given name told same.
             Contains-append_right (names given) _ name
-            (subst (λ (t : List (List ℕ)). Contains t name) (sym (after given (first.found given told))) (second.named given name told same));
-        once = asks_then files faults asked s0 s1 s2 value result first second;
+            (subst (λ (t : List (List ℕ)). Contains t name) (sym (after given (first.found given told))) (second.named given name (first.kept ∙ told) same));
+        once = asks_then view s0 s1 s2 value result first second;
         unread = λ name same. elim (second.unread name same) [
-          | inl rose ↦ inl (rose_later (faults s0) (faults s1) (faults s2) first.later rose)
-          | inr missing ↦ inr missing
+          | inl rose ↦ inl (rose_later (view.faults s0) (view.faults s1) (view.faults s2) first.later rose)
+          | inr missing ↦ inr (subst (λ (t : Option Files). IsMissing t name) first.kept missing)
         ];
         steady = λ other. second.steady other ∙ first.steady (λ name e. cc);
         later = omega (arith, first.later, second.later);
+        kept = second.kept ∙ first.kept;
       }
 
   -- one read that is refused, so that there is no other
-  pub reads_stopped : (store : Store S) (refusal : Refusal)
-      → Reads wanted names store (Err refusal)
-      → Reads (λ given. and_then (wanted given) (λ a. next a given)) (λ given. names given ++ names_then (wanted given) (λ a. next_names a given)) store (Err refusal)
-  reads_stopped store refusal first = record {
+  pub reads_stopped : (view : StoreView S) (old new : S) (refusal : Refusal)
+      → Reads wanted names view old new (Err refusal)
+      → Reads (λ given. and_then (wanted given) (λ a. next a given)) (λ given. names given ++ names_then (wanted given) (λ a. next_names a given)) view old new (Err refusal)
+  reads_stopped view old new refusal first = record {
     found = λ given told. tt;
     refused = λ given told stood. elim (first.refused given told stood) [
       | inl memory ↦ inl memory
@@ -131,6 +130,7 @@ module _ {S A B : Type 0} (wanted : Files → Result A Refusal) (names : Files �
     unread = λ name same. first.unread name (let is : refusal ≡ Read name = cc in ap Err is);
     steady = λ other. first.steady (λ name e. other name (let is : refusal ≡ Read name = cc in ap Err is));
     later = first.later;
+    kept = first.kept;
   }
 
 no_read : {A : Type 0} (wanted : Result A Refusal) (refusal : Refusal) (name : List ℕ) → Answers wanted (Err refusal) → ((name : List ℕ) → wanted ≢ Err (Read name)) → ◌≡◌ {A = Result A Refusal} (Err refusal) (Err (Read name)) → ⊥
@@ -139,8 +139,8 @@ no_read {A} wanted refusal name answer other same =
     elim answer [ inl memory ↦ cc | inr e ↦ other name (e ∙ ap (λ (r : Refusal). Err r) is) ]
 
 -- nothing was asked for
-asks_nothing : {S : Type 0} (names : Files → List (List ℕ)) (files : Option Files) (faults : S → ℕ) (asked : S → List ℕ → S → Type 0) (s : S) (all : Type 0) → ((given : Files) → all → names given ≡ []) → Asks names (span files faults asked s s) all
-asks_nothing names files faults asked s all none = record {
+asks_nothing : {S : Type 0} (names : Files → List (List ℕ)) (view : StoreView S) (s : S) (all : Type 0) → ((given : Files) → all → names given ≡ []) → Asks names view s s all
+asks_nothing names view s all none = record {
   asked = [];
   are_asked = refl;
   part = λ given told. (names given, refl);
@@ -148,29 +148,31 @@ asks_nothing names files faults asked s all none = record {
 }
 
 -- A step that reads nothing answers what it calls for.
-pub reads_nothing : {S A : Type 0} (wanted : Result A Refusal) (result : Result A Refusal) (files : Option Files) (faults : S → ℕ) (asked : S → List ℕ → S → Type 0) (s : S) → Answers wanted result → ((name : List ℕ) → wanted ≢ Err (Read name)) → Reads (λ _. wanted) (λ _. []) (record { files = files; faults = faults; asked = asked; before = s; now = s }) result
-reads_nothing wanted (Ok value) files faults asked s answer other = record {
+pub reads_nothing : {S A : Type 0} (wanted : Result A Refusal) (result : Result A Refusal) (view : StoreView S) (s : S) → Answers wanted result → ((name : List ℕ) → wanted ≢ Err (Read name)) → Reads (λ _. wanted) (λ _. []) view s s result
+reads_nothing wanted (Ok value) view s answer other = record {
   found = λ given told. answer;
   refused = λ given told stood. tt;
   named = λ given name told same. cc;
-  once = asks_nothing (λ _. []) files faults asked s _ (λ given through. refl);
+  once = asks_nothing (λ _. []) view s _ (λ given through. refl);
   unread = λ name same. cc;
   steady = λ _. refl;
   later = omega arith;
+  kept = refl;
 }
-reads_nothing wanted (Err refusal) files faults asked s answer other = record {
+reads_nothing wanted (Err refusal) view s answer other = record {
   found = λ given told. tt;
   refused = λ given told stood. answer;
   named = λ given name told same. absurd (no_read wanted refusal name answer other same);
-  once = asks_nothing (λ _. []) files faults asked s _ (λ given through. refl);
+  once = asks_nothing (λ _. []) view s _ (λ given through. refl);
   unread = λ name same. absurd (no_read wanted refusal name answer other same);
   steady = λ _. refl;
   later = omega arith;
+  kept = refl;
 }
 
 -- The names may be said otherwise.
-pub reads_as : {S A : Type 0} (wanted : Files → Result A Refusal) (names others : Files → List (List ℕ)) (store : Store S) (result : Result A Refusal) → ((given : Files) → names given ≡ others given) → Reads wanted names store result → Reads wanted others store result
-reads_as wanted names others store result same read = record {
+pub reads_as : {S A : Type 0} (wanted : Files → Result A Refusal) (names others : Files → List (List ℕ)) (view : StoreView S) (old new : S) (result : Result A Refusal) → ((given : Files) → names given ≡ others given) → Reads wanted names view old new result → Reads wanted others view old new result
+reads_as wanted names others view old new result same read = record {
   found = read.found;
   refused = read.refused;
   named = λ given name told is. subst (λ (t : List (List ℕ)). Contains t name) (same given) (read.named given name told is);
@@ -183,6 +185,7 @@ reads_as wanted names others store result same read = record {
   unread = read.unread;
   steady = read.steady;
   later = read.later;
+  kept = read.kept;
 }
 
 nothing_then : {A : Type 0} (r : Result A Refusal) → names_then r (λ _. []) ≡ []
@@ -193,34 +196,35 @@ no_more : {A : Type 0} (names : List (List ℕ)) (r : Result A Refusal) → name
 no_more names r = ap (λ (t : List (List ℕ)). names ++ t) (nothing_then r) ∙ append-nil names
 
 -- one read, and then a step that reads nothing
-pub reads_and : {S A B : Type 0} (wanted : Files → Result A Refusal) (names : Files → List (List ℕ)) (next : A → Result B Refusal) (files : Option Files) (faults : S → ℕ) (asked : S → List ℕ → S → Type 0) (s0 s1 : S) (value : A) (result : Result B Refusal)
-    → Reads wanted names (record { files = files; faults = faults; asked = asked; before = s0; now = s1 }) (Ok value)
+pub reads_and : {S A B : Type 0} (wanted : Files → Result A Refusal) (names : Files → List (List ℕ)) (next : A → Result B Refusal) (view : StoreView S) (s0 s1 : S) (value : A) (result : Result B Refusal)
+    → Reads wanted names view s0 s1 (Ok value)
     → Answers (next value) result → ((name : List ℕ) → next value ≢ Err (Read name))
-    → Reads (λ given. and_then (wanted given) next) names (record { files = files; faults = faults; asked = asked; before = s0; now = s1 }) result
-reads_and wanted names next files faults asked s0 s1 value result first answer other =
-    reads_as _ _ names _ result (λ given. no_more (names given) (wanted given))
-    (reads_then wanted names (λ a _. next a) (λ _ _. []) files faults asked s0 s1 s1 value result first
-    (reads_nothing (next value) result files faults asked s1 answer other))
+    → Reads (λ given. and_then (wanted given) next) names view s0 s1 result
+reads_and wanted names next view s0 s1 value result first answer other =
+    reads_as _ _ names _ _ _ result (λ given. no_more (names given) (wanted given))
+    (reads_then wanted names (λ a _. next a) (λ _ _. []) view s0 s1 s1 value result first
+    (reads_nothing (next value) result view s1 answer other))
 
-pub reads_ended : {S A B : Type 0} (wanted : Files → Result A Refusal) (names : Files → List (List ℕ)) (next : A → Result B Refusal) (store : Store S) (refusal : Refusal)
-    → Reads wanted names store (Err refusal) → Reads (λ given. and_then (wanted given) next) names store (Err refusal)
-reads_ended {S} {A} {B} wanted names next store refusal first =
-    reads_as {A = B} _ _ names store (Err refusal) (λ given. no_more (names given) (wanted given))
-    (reads_stopped {A = A} {B = B} wanted names (λ a _. next a) (λ _ _. []) store refusal first)
+pub reads_ended : {S A B : Type 0} (wanted : Files → Result A Refusal) (names : Files → List (List ℕ)) (next : A → Result B Refusal) (view : StoreView S) (old new : S) (refusal : Refusal)
+    → Reads wanted names view old new (Err refusal) → Reads (λ given. and_then (wanted given) next) names view old new (Err refusal)
+reads_ended {S} {A} {B} wanted names next view old new refusal first =
+    reads_as {A = B} _ _ names view old new (Err refusal) (λ given. no_more (names given) (wanted given))
+    (reads_stopped {A = A} {B = B} wanted names (λ a _. next a) (λ _ _. []) view old new refusal first)
 
 -- Want of memory may come in place of any answer.
-pub reads_memory : {S A : Type 0} (wanted : Files → Result A Refusal) (names : Files → List (List ℕ)) (files : Option Files) (faults : S → ℕ) (asked : S → List ℕ → S → Type 0) (s : S) → Reads {A = A} wanted names (record { files = files; faults = faults; asked = asked; before = s; now = s }) (Err NoMemory)
-reads_memory wanted names files faults asked s = record {
+pub reads_memory : {S A : Type 0} (wanted : Files → Result A Refusal) (names : Files → List (List ℕ)) (view : StoreView S) (s : S) → Reads {A = A} wanted names view s s (Err NoMemory)
+reads_memory wanted names view s = record {
   found = λ given told. tt;
   refused = λ given told stood. inl refl;
   named = λ given name told same. cc;
-  once = asks_nothing names files faults asked s _ (λ given through. absurd (through.1 refl));
+  once = asks_nothing names view s _ (λ given through. absurd (through.1 refl));
   unread = λ name same. cc;
   steady = λ _. refl;
   later = omega arith;
+  kept = refl;
 }
 
 -- the same of a name that is spelt otherwise
-pub reads_named : {S A : Type 0} (wanted : List ℕ → Files → Result A Refusal) (store : Store S) (result : Result A Refusal) (spelt name : List ℕ) → spelt ≡ name → Reads (wanted spelt) (λ _. spelt ∷ []) store result → Reads (wanted name) (λ _. name ∷ []) store result
-reads_named wanted store result spelt name same read =
-    subst (λ (n : List ℕ). Reads (wanted n) (λ _. n ∷ []) store result) same read
+pub reads_named : {S A : Type 0} (wanted : List ℕ → Files → Result A Refusal) (view : StoreView S) (old new : S) (result : Result A Refusal) (spelt name : List ℕ) → spelt ≡ name → Reads (wanted spelt) (λ _. spelt ∷ []) view old new result → Reads (wanted name) (λ _. name ∷ []) view old new result
+reads_named wanted view old new result spelt name same read =
+    subst (λ (n : List ℕ). Reads (wanted n) (λ _. n ∷ []) view old new result) same read

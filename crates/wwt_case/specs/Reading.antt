@@ -3,8 +3,10 @@ use Rattle.std.specs.Prelude.{◌≡◌, ◌≢◌, ⊤, ℕ, ◌≤◌, ◌⊎�
 use Rattle.wt_outside.specs.Faults.{Rose, Stood}
 use Rattle.wt_outside.specs.Asked.{AreAsked}
 use Rattle.wt_outside.specs.Files.{Files, IsMissing}
+use Rattle.wt_outside.specs.Views.{StoreView}
 use Rattle.elf_image.specs.declared.fault.ImageFault.TheVariants as files
 use Rattle.machine_json.specs.declared.fault.MachineFault.TheVariants as machines
+use Rattle.wwt_case.specs.Files.{read_limit}
 use Rattle.wwt_case.specs.declared.refusal.ImageRefusal.TheVariants.{Elf}
 use Rattle.wwt_case.specs.declared.refusal.Refusal.{Refusal}
 use Rattle.wwt_case.specs.declared.refusal.Refusal.TheVariants.{Usage, Read, Machine, Image, Write, NoMemory}
@@ -14,41 +16,34 @@ abbrev pub Answers : {A : Type 0} → Result A Refusal → Result A Refusal → 
 Answers wanted (Ok value) = wanted ≡ Ok value
 Answers wanted (Err refusal) = (refusal ≡ NoMemory) ⊎ (wanted ≡ Err refusal)
 
--- A store before and after a call: its files, and what it counts as a fault and as a read of a name.
-pub record Store (S : Type 0) : Type 1 where
-  pub files : Option Files
-  pub faults : S → ℕ
-  pub asked : S → List ℕ → S → Type 0
-  pub before : S
-  pub now : S
+-- no fault of the store rose in a call
+abbrev pub IsSound : {S : Type 0} → StoreView S → S → S → Type 0
+IsSound view old new = Stood (view.faults old) (view.faults new)
 
--- no fault of the store rose
-abbrev pub IsSound : {S : Type 0} → Store S → Type 0
-IsSound store = Stood (store.faults store.before) (store.faults store.now)
-
--- The names that the store was asked for, in their order, and nothing else: of told files a first part of these names,
--- and where so said, all of them.
-pub record Asks {S : Type 0} (names : Files → List (List ℕ)) (store : Store S) (all : Type 0) : Type 0 where
+-- The names that the store was asked for, in their order, each up to the limit, and nothing else: of told files a first
+-- part of these names, and where so said, all of them.
+pub record Asks {S : Type 0} (names : Files → List (List ℕ)) (view : StoreView S) (old new : S) (all : Type 0) : Type 0 where
   pub asked : List (List ℕ)
-  pub are_asked : AreAsked store.faults store.asked store.before asked store.now
-  pub part : (files : Files) → store.files ≡ Some files → (rest : List (List ℕ)) × (names files ≡ asked ++ rest)
-  pub whole : (files : Files) → store.files ≡ Some files → all → asked ≡ names files
+  pub are_asked : AreAsked view read_limit old asked new
+  pub part : (files : Files) → view.files old ≡ Some files → (rest : List (List ℕ)) × (names files ≡ asked ++ rest)
+  pub whole : (files : Files) → view.files old ≡ Some files → all → asked ≡ names files
 
 -- a call came to its end: to a value, or where no fault rose to a refusal other than want of memory
-abbrev pub IsThrough : {S A : Type 0} → Store S → Result A Refusal → Type 0
-IsThrough store (Ok value) = ⊤
-IsThrough store (Err refusal) = IsSound store × (refusal ≢ NoMemory)
+abbrev pub IsThrough : {S A : Type 0} → StoreView S → S → S → Result A Refusal → Type 0
+IsThrough view old new (Ok value) = ⊤
+IsThrough view old new (Err refusal) = IsSound view old new × (refusal ≢ NoMemory)
 
 -- What is answered is what the told files call for, or want of memory. A file can't be read only where the told files
 -- lack its name, or where a fault rose. Each name that is listed is read once, in order, and none after a refusal.
-pub record Reads {S A : Type 0} (wanted : Files → Result A Refusal) (names : Files → List (List ℕ)) (store : Store S) (result : Result A Refusal) : Type 0 where
-  pub found : (files : Files) → store.files ≡ Some files → IfOk result (λ value. wanted files ≡ Ok value)
-  pub refused : (files : Files) → store.files ≡ Some files → IsSound store → IfErr result (λ refusal. (refusal ≡ NoMemory) ⊎ (wanted files ≡ Err refusal))
-  pub named : (files : Files) (name : List ℕ) → store.files ≡ Some files → result ≡ Err (Read name) → Contains (names files) name
-  pub once : Asks names store (IsThrough store result)
-  pub unread : (name : List ℕ) → result ≡ Err (Read name) → Rose (store.faults store.before) (store.faults store.now) ⊎ IsMissing store.files name
-  pub steady : ((name : List ℕ) → result ≢ Err (Read name)) → store.faults store.now ≡ store.faults store.before
-  pub later : store.faults store.before ≤ store.faults store.now
+pub record Reads {S A : Type 0} (wanted : Files → Result A Refusal) (names : Files → List (List ℕ)) (view : StoreView S) (old new : S) (result : Result A Refusal) : Type 0 where
+  pub found : (files : Files) → view.files old ≡ Some files → IfOk result (λ value. wanted files ≡ Ok value)
+  pub refused : (files : Files) → view.files old ≡ Some files → IsSound view old new → IfErr result (λ refusal. (refusal ≡ NoMemory) ⊎ (wanted files ≡ Err refusal))
+  pub named : (files : Files) (name : List ℕ) → view.files old ≡ Some files → result ≡ Err (Read name) → Contains (names files) name
+  pub once : Asks names view old new (IsThrough view old new result)
+  pub unread : (name : List ℕ) → result ≡ Err (Read name) → Rose (view.faults old) (view.faults new) ⊎ IsMissing (view.files old) name
+  pub steady : ((name : List ℕ) → result ≢ Err (Read name)) → view.faults new ≡ view.faults old
+  pub later : view.faults old ≤ view.faults new
+  pub kept : view.files new ≡ view.files old
 
 -- Want of memory has a name of its own, and is never told as a fault of a file.
 abbrev pub IsByItsName : Refusal → Type 0

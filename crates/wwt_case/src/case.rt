@@ -23,13 +23,7 @@ use wwt_words::{Command, WordFault, read_words};
 /// The job that the words and the files of the store call for, or why there is none. Each name that is listed for it is
 /// read once, in order, and none after a refusal.
 pub fn prepare<S: Store>(alloc: Global, words: &[String], store: &mut S) -> Result<Job, Refusal>
-    ensures read { Reads (case_of (map string_bytes words.now)) (names_of (map string_bytes words.now)) (record {
-      files = S.files store.old;
-      faults = S.faults;
-      asked = S.asked;
-      before = store.old;
-      now = store.new;
-    }) result }
+    ensures read { Reads (case_of (map string_bytes words.now)) (names_of (map string_bytes words.now)) S.view store.old store.new result }
     ensures ready { IfOk result IsReady }
     ensures accepted { IfOk result (λ _. is_usage_of (command_of (map string_bytes words.now)) ≡ false) }
     ensures usage { IsErrOf result Refusal.Usage → is_usage_of (command_of (map string_bytes words.now)) ≡ true }
@@ -52,13 +46,7 @@ fn prepare_command<S: Store>(
     store: &mut S,
 ) -> Result<Job, Refusal>
     requires { HasRanges command.now }
-    ensures read { Reads (command_case (Some command.now)) (command_names (Some command.now)) (record {
-      files = S.files store.old;
-      faults = S.faults;
-      asked = S.asked;
-      before = store.old;
-      now = store.new;
-    }) result }
+    ensures read { Reads (command_case (Some command.now)) (command_names (Some command.now)) S.view store.old store.new result }
     ensures ready { IfOk result IsReady }
     ensures accepted { IfOk result (λ _. is_usage_of (Some command.now) ≡ false) }
     ensures usage { IsErrOf result Refusal.Usage → is_usage_of (Some command.now) ≡ true }
@@ -96,13 +84,7 @@ fn prepare_command<S: Store>(
 
 /// A machine to be printed.
 fn prepare_check<S: Store>(alloc: Global, name: &str, store: &mut S) -> Result<Job, Refusal>
-    ensures read { Reads (check_case name.now) (described_names name.now) (record {
-      files = S.files store.old;
-      faults = S.faults;
-      asked = S.asked;
-      before = store.old;
-      now = store.new;
-    }) result }
+    ensures read { Reads (check_case name.now) (described_names name.now) S.view store.old store.new result }
     ensures ready { IfOk result IsReady }
     ensures other { IsOther result }
 {
@@ -125,13 +107,7 @@ fn prepare_run<S: Store>(
     store: &mut S,
 ) -> Result<Job, Refusal>
     requires { IfSome budget IsBudget }
-    ensures read { Reads (run_case name.now budget trace memory) (described_names name.now) (record {
-      files = S.files store.old;
-      faults = S.faults;
-      asked = S.asked;
-      before = store.old;
-      now = store.new;
-    }) result }
+    ensures read { Reads (run_case name.now budget trace memory) (described_names name.now) S.view store.old store.new result }
     ensures ready { IfOk result IsReady }
     ensures other { IsOther result }
 {
@@ -160,13 +136,7 @@ fn with_budget(machine: &Machine, budget: Option<u64>) -> Machine
 /// A generated machine to be run.
 fn prepare_load<S: Store>(alloc: Global, number: u64, store: &mut S) -> Result<Job, Refusal>
     requires { number ≤ 9999 }
-    ensures read { Reads (generated_case number) (generated_names number) (record {
-      files = S.files store.old;
-      faults = S.faults;
-      asked = S.asked;
-      before = store.old;
-      now = store.new;
-    }) result }
+    ensures read { Reads (generated_case number) (generated_names number) S.view store.old store.new result }
     ensures ready { IfOk result IsReady }
     ensures other { IsOther result }
 {
@@ -186,13 +156,7 @@ fn prepare_described<S: Store>(
     name: &str,
     store: &mut S,
 ) -> Result<Described, Refusal>
-    ensures read { Reads (described_case name.now) (described_names name.now) (record {
-      files = S.files store.old;
-      faults = S.faults;
-      asked = S.asked;
-      before = store.old;
-      now = store.new;
-    }) result }
+    ensures read { Reads (described_case name.now) (described_names name.now) S.view store.old store.new result }
     ensures ready { IfOk result IsLoaded }
     ensures other { IsOther result }
 {
@@ -209,13 +173,7 @@ fn prepare_machine<S: Store>(
     store: &mut S,
 ) -> Result<Described, Refusal>
     requires { HasImages description.now }
-    ensures read { Reads (machine_case description.now) (names_from 0 description.now.images) (record {
-      files = S.files store.old;
-      faults = S.faults;
-      asked = S.asked;
-      before = store.old;
-      now = store.new;
-    }) result }
+    ensures read { Reads (machine_case description.now) (names_from 0 description.now.images) S.view store.old store.new result }
     ensures ready { IfOk result IsLoaded }
     ensures other { IsOther result }
 {
@@ -257,14 +215,7 @@ fn read_description<S: Store>(
     name: &str,
     store: &mut S,
 ) -> Result<Description, Refusal>
-    ensures read { Reads (description_case name.now) (λ _. name.now ∷ []) (record {
-      files = S.files store.old;
-      faults = S.faults;
-      asked = S.asked;
-      before = store.old;
-      now = store.new;
-    }) result }
-    ensures files { S.files store.new ≡ S.files store.old }
+    ensures read { Reads (description_case name.now) (λ _. name.now ∷ []) S.view store.old store.new result }
     ensures images { IfOk result HasImages }
     ensures other { IsOther result }
 {
@@ -290,13 +241,7 @@ fn describe(alloc: Global, bytes: &[u8]) -> Result<Description, Refusal>
 
 /// The image of a name, whose words are to be printed.
 fn prepare_dis<S: Store>(alloc: Global, name: &str, store: &mut S) -> Result<Job, Refusal>
-    ensures read { Reads (dis_case name.now) (λ _. name.now ∷ []) (record {
-      files = S.files store.old;
-      faults = S.faults;
-      asked = S.asked;
-      before = store.old;
-      now = store.new;
-    }) result }
+    ensures read { Reads (dis_case name.now) (λ _. name.now ∷ []) S.view store.old store.new result }
     ensures ready { IfOk result IsReady }
     ensures other { IsOther result }
 {
@@ -322,13 +267,7 @@ fn dis_job(alloc: Global, bytes: Bytes) -> Result<Job, Refusal>
 
 /// Flat bytes from standard input.
 fn prepare_flat<S: Store>(alloc: Global, store: &mut S) -> Result<Job, Refusal>
-    ensures read { Reads flat_case (λ _. input_name ∷ []) (record {
-      files = S.files store.old;
-      faults = S.faults;
-      asked = S.asked;
-      before = store.old;
-      now = store.new;
-    }) result }
+    ensures read { Reads flat_case (λ _. input_name ∷ []) S.view store.old store.new result }
     ensures ready { IfOk result IsReady }
     ensures other { IsOther result }
 {

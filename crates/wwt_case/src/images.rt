@@ -69,14 +69,7 @@ pub fn read_images<S: Store>(
     requires placed { All IsPlaced entries.now }
     requires few { number + length entries.now < 2 ^ 32 }
     requires held { All HoldsItsBytes found }
-    ensures read { Reads (images_from found number entries.now) (names_from number entries.now) (record {
-      files = S.files store.old;
-      faults = S.faults;
-      asked = S.asked;
-      before = store.old;
-      now = store.new;
-    }) result }
-    ensures files { S.files store.new ≡ S.files store.old }
+    ensures read { Reads (images_from found number entries.now) (names_from number entries.now) S.view store.old store.new result }
     ensures other { IsOther result }
     ensures bytes { IfOk result (All HoldsItsBytes) }
     ensures count { IfOk result (λ images. length images ≡ length found + length entries.now) }
@@ -114,14 +107,7 @@ pub fn read_image<S: Store>(
     store: &mut S,
 ) -> Result<Image, Refusal>
     requires { IsPlaced entry.now }
-    ensures read { Reads (image_case number entry.now) (λ _. image_names entry.now) (record {
-      files = S.files store.old;
-      faults = S.faults;
-      asked = S.asked;
-      before = store.old;
-      now = store.new;
-    }) result }
-    ensures files { S.files store.new ≡ S.files store.old }
+    ensures read { Reads (image_case number entry.now) (λ _. image_names entry.now) S.view store.old store.new result }
     ensures other { IsOther result }
     ensures bytes { IfOk result HoldsItsBytes }
 {
@@ -149,14 +135,7 @@ pub fn read_program<S: Store>(
     store: &mut S,
 ) -> Result<Image, Refusal>
     requires { at % 4 ≡ 0 }
-    ensures read { Reads (file_image number name.now elf at) (λ _. name.now ∷ []) (record {
-      files = S.files store.old;
-      faults = S.faults;
-      asked = S.asked;
-      before = store.old;
-      now = store.new;
-    }) result }
-    ensures files { S.files store.new ≡ S.files store.old }
+    ensures read { Reads (file_image number name.now elf at) (λ _. name.now ∷ []) S.view store.old store.new result }
     ensures other { IsOther result }
     ensures bytes { IfOk result HoldsItsBytes }
 {

@@ -13,14 +13,7 @@ const READ_LIMIT: u64 = 16_777_216;
 
 /// The bytes of the file of a name, which is read as this kind of file.
 pub fn read_file<S: Store>(store: &mut S, name: Name, kind: FileKind) -> Result<Bytes, Refusal>
-    ensures read { Reads (file_of name kind) (λ _. name ∷ []) (record {
-      files = S.files store.old;
-      faults = S.faults;
-      asked = S.asked;
-      before = store.old;
-      now = store.new;
-    }) result }
-    ensures files { S.files store.new ≡ S.files store.old }
+    ensures read { Reads (file_of name kind) (λ _. name ∷ []) S.view store.old store.new result }
     ensures other { IsOther result }
 {
     match store.read(name.get(), READ_LIMIT) {

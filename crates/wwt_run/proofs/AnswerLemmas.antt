@@ -1,25 +1,34 @@
--- Which status goes with which end.
-use Rattle.std.proofs.Common.{◌≡◌, ◌≢◌, ℕ, List, [], Option, Some, Result, Ok, Err, IfOk, IfErr, ◌⊎◌, inl, inr, Bool, true, false, cond, ap, sym, ◌∙◌, subst, refl}
+-- What is shown of a call by what its parts answered.
+use Rattle.std.proofs.Common.{◌≡◌, ◌≢◌, ℕ, List, [], Option, Some, Result, Ok, Err, ◌⊎◌, inl, inr, Bool, true, false, cond, ap, sym, ◌∙◌, subst, refl}
+use Rattle.std.proofs.lemmas.Bool.{false≢true}
 use Rattle.wt_outside.specs.Files.{Files}
-use Rattle.wt_outside.specs.Growth.{Grows}
+use Rattle.wt_outside.specs.Growth.{Grows, GrowsByPrefix}
+use Rattle.wt_outside.specs.Views.{StoreView, SinkView}
+use Rattle.wt_outside.specs.Writes.{Writes}
+use Rattle.wt_outside.specs.declared.fault.WriteFault.{WriteFault}
+use Rattle.wt_outside.specs.declared.fault.WriteFault.TheVariants as faults
+use Rattle.wt_outside.proofs.FaultLemmas.{not_both}
+use Rattle.wt_outside.proofs.GrowthLemmas.{grows_nothing, prefix_nothing}
 use Rattle.wwt_case.specs.declared.job.Job.{Job}
 use Rattle.wwt_case.specs.declared.job.Job.TheVariants.{Check, Dis, Flat, Run, Load}
 use Rattle.wwt_case.specs.declared.refusal.Refusal.{Refusal}
 use Rattle.wwt_case.specs.declared.refusal.Refusal.TheVariants as refusals
-use Rattle.wwt_case.specs.Reading.{Store, Asks, IsByItsName, IsSound, IsThrough}
+use Rattle.wwt_words.specs.Words.{command_of}
+use Rattle.wwt_case.specs.Case.{is_usage_of}
+use Rattle.wwt_case.specs.Reading.{Asks, Reads, IsByItsName, IsSound, IsThrough}
 use Rattle.node.specs.declared.state.NodeState.{NodeState}
 use Rattle.wt_stats.specs.declared.head.Outcome.{Outcome}
 use Rattle.wt_stats.specs.declared.head.Outcome.TheVariants as outcomes
 use Rattle.wwt_run.specs.declared.status.Status.{Status}
-use Rattle.wwt_run.specs.declared.status.Status.TheVariants.{Done, NodeFault, Usage, Budget, EventLimit, Stalled, BadMachine, BadImage, ReadFault, WriteFault, NoMemory}
+use Rattle.wwt_run.specs.declared.status.Status.TheVariants.{Done, NodeFault, Usage, Budget, EventLimit, Stalled, BadMachine, BadImage, ReadFault, WriteFault as FailedWrite, NoMemory}
 use Rattle.wwt_run.specs.Status.{status_of_refusal, status_after_of}
 use Rattle.wt_params.specs.declared.parts.MachineParts.{MachineParts}
 use Rattle.wt_params.specs.Machine.{flat_machine}
 use Rattle.image_loader.specs.Images.{LoadedImages}
 use Rattle.quantum.specs.Outcome.{outcome_of}
 use Rattle.wt_report.specs.declared.options.Options.{Options}
-use Rattle.wwt_run.specs.Jobs.{final_of, asked_of, summary_of, status_of_job, status_of, output_of, status_of_run}
-use Rattle.wwt_run.specs.Answer.{Ends, IsDone, IsEarly, IsUnwritten}
+use Rattle.wwt_run.specs.Jobs.{final_of, refusal_of, asked_of, summary_of, status_of_job, output_of_job, status_of, output_of, status_of_run}
+use Rattle.wwt_run.specs.Answer.{Words, texts_of, IsUsage, wanted, listed, Ends, IsDone, IsUnwritten, Headline, AsksInOrder, Untouched, Attempts}
 
 either_done : (b : Bool) → IsDone (cond b Done NodeFault)
 either_done true = tt
@@ -42,56 +51,7 @@ job_is_done (Flat loaded) = ran_is_done flat_machine loaded (asked_of false fals
 job_is_done (Run machine loaded trace memory) = ran_is_done machine loaded (asked_of trace memory)
 job_is_done (Load machine loaded) = ran_is_done machine loaded summary_of
 
-pub end_is_done : (job : Job) (result : Result Status Refusal) → IfOk result (λ status. status ≡ status_of_job job) → IfOk result IsDone
-end_is_done job (Ok status) is = subst IsDone (sym is) (job_is_done job)
-end_is_done job (Err refusal) is = tt
-
--- no job's status is that of a refusal
-pub not_done : (status other : Status) → IsDone status → (IsDone other → ⊥) → Some status ≡ Some other → ⊥
-not_done status other done none same = let is : status ≡ other = cc in none (subst IsDone is done)
-
-pub ok_status : (wanted : Result Job Refusal) (status : Status) → Ends wanted (Ok status) → status ≡ status_of wanted
-ok_status (Ok job) status is = is
-ok_status (Err reason) status is = absurd is
-
-early_or : (refusal : Refusal) → (refusal ≡ refusals.Write) ⊎ ((refusal ≡ refusals.NoMemory) ⊎ IsEarly (Err refusal))
-early_or refusals.Usage = inr (inr tt)
-early_or (refusals.Read name) = inr (inr tt)
-early_or (refusals.Machine fault) = inr (inr tt)
-early_or (refusals.Image number why) = inr (inr tt)
-early_or refusals.Write = inl refl
-early_or refusals.NoMemory = inr (inl refl)
-
--- a refusal in which no fault of the output rose
-pub refused_end : (wanted : Result Job Refusal) (refusal : Refusal) (status : Status) (a b : Option (List ℕ)) → status ≡ status_of_refusal refusal → Ends wanted (Err refusal) → refusal ≢ refusals.Write → (IsEarly (Err refusal) → Grows a b []) → (Some status ≡ Some NoMemory) ⊎ ((Some status ≡ Some (status_of wanted)) × Grows a b (output_of wanted))
-refused_end (Ok job) refusal status a b is ends unwritten early =
-    elim ends [ inl write ↦ absurd (unwritten write) | inr memory ↦ inl (ap Some (is ∙ ap status_of_refusal memory)) ]
-refused_end (Err reason) refusal status a b is ends unwritten early =
-    elim ends [
-      | inl same ↦ elim (early_or refusal) [
-        | inl write ↦ absurd (unwritten write)
-        | inr other ↦ elim other [
-          | inl memory ↦ inl (ap Some (is ∙ ap status_of_refusal memory))
-          | inr soon ↦ inr (ap Some (is ∙ ap status_of_refusal same), early soon)
-        ]
-      ]
-      | inr memory ↦ inl (ap Some (is ∙ ap status_of_refusal memory))
-    ]
-
--- a status in which nothing was written is that of a refusal before anything is
-pub is_early : (refusal : Refusal) (status : Status) → status ≡ status_of_refusal refusal → IsUnwritten status → IsEarly (Err refusal)
-is_early refusal status is unwritten = by refusal (subst IsUnwritten is unwritten)
-  where
-    by : (reason : Refusal) → IsUnwritten (status_of_refusal reason) → IsEarly (Err reason)
-    by refusals.Usage e = tt
-    by (refusals.Read name) e = tt
-    by (refusals.Machine fault) e = tt
-    by (refusals.Image number why) e = tt
-    by refusals.Write e = e
-    by refusals.NoMemory e = e
-
--- and not that of a job
-pub done_is_written : (status : Status) → IsDone status → IsUnwritten status → ⊥
+done_is_written : (status : Status) → IsDone status → IsUnwritten status → ⊥
 done_is_written Done done unwritten = unwritten
 done_is_written NodeFault done unwritten = unwritten
 done_is_written Usage done unwritten = done
@@ -101,34 +61,174 @@ done_is_written Stalled done unwritten = unwritten
 done_is_written BadMachine done unwritten = done
 done_is_written BadImage done unwritten = done
 done_is_written ReadFault done unwritten = done
-done_is_written WriteFault done unwritten = done
+done_is_written FailedWrite done unwritten = done
 done_is_written NoMemory done unwritten = done
 
--- what a job is refused for goes by its name
-pub by_its_name : (result : Result Status Refusal) → IfErr result (λ refusal. (refusal ≡ refusals.Write) ⊎ (refusal ≡ refusals.NoMemory)) → IfErr result IsByItsName
-by_its_name (Ok status) kinds = tt
-by_its_name (Err refusal) kinds =
-    elim kinds [ inl write ↦ subst IsByItsName (sym write) tt | inr memory ↦ subst IsByItsName (sym memory) tt ]
-
-pub read_of : (refusal : Refusal) → status_of_refusal refusal ≡ ReadFault → (name : List ℕ) × (refusal ≡ refusals.Read name)
-read_of refusals.Usage e = cc
-read_of (refusals.Read name) e = (name, refl)
-read_of (refusals.Machine fault) e = cc
-read_of (refusals.Image number why) e = cc
-read_of refusals.Write e = cc
-read_of refusals.NoMemory e = cc
-
 -- all names are asked for where less is said to be needed
-pub asks_when : {S : Type 0} (names : Files → List (List ℕ)) (store : Store S) (all more : Type 0) → (more → all) → Asks names store all → Asks names store more
-asks_when names store all more weaker asks = record {
+asks_when : {S : Type 0} (names : Files → List (List ℕ)) (view : StoreView S) (old new : S) (all more : Type 0) → (more → all) → Asks names view old new all → Asks names view old new more
+asks_when names view old new all more weaker asks = record {
   asked = asks.asked;
   are_asked = asks.are_asked;
   part = asks.part;
   whole = λ files told through. asks.whole files told (weaker through);
 }
 
--- the same of a refusal, said of its status
-pub asks_by_status : {S : Type 0} (names : Files → List (List ℕ)) (store : Store S) (refusal : Refusal) (status : Status) → status ≡ status_of_refusal refusal → Asks names store (IsThrough {A = Status} store (Err refusal)) → Asks names store (IsSound store × (Some status ≢ Some NoMemory))
-asks_by_status names store refusal status is =
-    asks_when names store (IsThrough {A = Status} store (Err refusal)) (IsSound store × (Some status ≢ Some NoMemory))
-    (λ through. (through.0, λ memory. through.1 (ap Some (is ∙ ap status_of_refusal memory))))
+-- want of memory may come in place of any end
+ends_early : (called : Result Job Refusal) → Ends called (Err refusals.NoMemory)
+ends_early (Ok job) = inr refl
+ends_early (Err reason) = inr refl
+
+-- ---- the words and the files are refused
+
+module _ {S K : Type 0} (words : Words) (store : StoreView S) (s0 s1 : S) (out : SinkView K) (k : K) (refusal : Refusal) (read : Reads (wanted words) (listed words) store s0 s1 (Err refusal)) where
+  same_name : (name : List ℕ) → ◌≡◌ {A = Result Status Refusal} (Err refusal) (Err (refusals.Read name)) → ◌≡◌ {A = Result Job Refusal} (Err refusal) (Err (refusals.Read name))
+  same_name name same = let is : refusal ≡ refusals.Read name = cc in ap Err is
+
+  refused_ends : (files : Files) → store.files s0 ≡ Some files → IsSound store s0 s1 → Ends (wanted words files) (Err refusal)
+  refused_ends files told stood = elim (read.refused files told stood) [
+    | inl memory ↦ subst (λ (r : Refusal). Ends (wanted words files) (Err r)) (sym memory) (ends_early (wanted words files))
+    | inr same ↦ subst (λ (c : Result Job Refusal). Ends c (Err refusal)) (sym same) (inl refl)
+  ]
+
+  refused_headline : Headline words store s0 s1 out k k (Some (status_of_refusal refusal))
+  refused_headline files told stood out_stood = elim (read.refused files told stood) [
+    | inl memory ↦ inl (ap (λ (r : Refusal). Some (status_of_refusal r)) memory)
+    | inr same ↦ inr (
+      ap (λ (c : Result Job Refusal). Some (status_of c)) (sym same),
+      subst (λ (c : Result Job Refusal). Grows (out.written k) (out.written k) (output_of c)) (sym same) (grows_nothing refl),
+    )
+  ]
+
+  refused_asks : AsksInOrder words store s0 s1 (Some (status_of_refusal refusal))
+  refused_asks =
+      asks_when (listed words) store s0 s1 (IsThrough {A = Job} store s0 s1 (Err refusal)) _
+      (λ through. (through.0, λ memory. through.1 (ap (λ (r : Refusal). Some (status_of_refusal r)) memory)))
+      read.once
+
+  untouched : s1 ≡ s0 → (refusal ≡ refusals.Usage) ⊎ (refusal ≡ refusals.NoMemory) → Untouched s0 s1 k k (Some (status_of_refusal refusal))
+  untouched unread which = record {
+    status_is = elim which [
+      | inl same ↦ inl (ap (λ (r : Refusal). Some (status_of_refusal r)) same)
+      | inr same ↦ inr (ap (λ (r : Refusal). Some (status_of_refusal r)) same)
+    ];
+    store = unread;
+    out = refl;
+  }
+
+  by_refusal : ◌≡◌ {A = Result Job Refusal} (Err refusal) (Err refusals.Usage) ⊎ ◌≡◌ {A = Result Job Refusal} (Err refusal) (Err refusals.NoMemory) → (refusal ≡ refusals.Usage) ⊎ (refusal ≡ refusals.NoMemory)
+  by_refusal which = elim which [ inl same ↦ inl cc | inr same ↦ inr cc ]
+
+  pub attempt_refused : (◌≡◌ {A = Result Job Refusal} (Err refusal) (Err refusals.Usage) → IsUsage words)
+      → (IsUsage words → ◌≡◌ {A = Result Job Refusal} (Err refusal) (Err refusals.Usage) ⊎ ◌≡◌ {A = Result Job Refusal} (Err refusal) (Err refusals.NoMemory))
+      → (IsUsage words → s1 ≡ s0) → (let answer : Result Job Refusal = Err refusal in answer ≢ Err refusals.Write) → IsByItsName refusal
+      → Attempts words store s0 s1 out k k (Err refusal)
+  attempt_refused usage refused unread unwritten wanting = record {
+    headline = refused_headline;
+    by = record {
+      of_case = refused_ends;
+      usage = λ same. usage (let is : refusal ≡ refusals.Usage = cc in ap Err is);
+      unread = λ name same. read.unread name (same_name name same);
+      named = λ files name told same. read.named files name told (same_name name same);
+      read = λ other. read.steady (λ name same. other name (let is : refusal ≡ refusals.Read name = cc in ap Err is));
+      unwritten = λ same. absurd (unwritten (let is : refusal ≡ refusals.Write = cc in ap Err is));
+      written = λ other. refl;
+      done = tt;
+      wanting = wanting;
+    };
+    asks = refused_asks;
+    written = record {
+      nothing = λ unwritten. grows_nothing refl;
+      part = (Dis (record { entry = 0; segments = [] }), prefix_nothing refl);
+      told_part = λ files told. prefix_nothing refl;
+    };
+    refused = λ usage. untouched (unread usage) (by_refusal (refused usage));
+  }
+
+-- ---- there is a job
+
+module _ {S K : Type 0} (words : Words) (store : StoreView S) (s0 s1 : S) (out : SinkView K) (k0 k1 : K) (job : Job) (read : Reads (wanted words) (listed words) store s0 s1 (Ok job)) (accepted : is_usage_of (command_of (texts_of words)) ≡ false) where
+  told_output : (files : Files) → store.files s0 ≡ Some files → (P : List ℕ → Type 0) → P (output_of_job job) → P (output_of (wanted words files))
+  told_output files told P p = subst (λ (c : Result Job Refusal). P (output_of c)) (sym (read.found files told)) p
+
+  job_asks : (result : Option Status) → AsksInOrder words store s0 s1 result
+  job_asks result = asks_when (listed words) store s0 s1 _ _ (λ _. tt) read.once
+
+  not_usage : (result : Option Status) → IsUsage words → Untouched s0 s1 k0 k1 result
+  not_usage result usage = absurd (false≢true (sym accepted ∙ usage))
+
+  -- and it was done
+  pub attempt_done : (status : Status) → status ≡ status_of_job job → Writes (output_of_job job) (Ok status) out k0 k1 → Attempts words store s0 s1 out k0 k1 (Ok status)
+  attempt_done status is writes = record {
+    headline = λ files told stood out_stood.
+        inr (
+          ap Some is ∙ ap (λ (c : Result Job Refusal). Some (status_of c)) (sym (read.found files told)),
+          told_output files told (λ text. Grows (out.written k0) (out.written k1) text) writes.whole,
+        );
+    by = record {
+      of_case = λ files told stood. subst (λ (c : Result Job Refusal). Ends c (Ok status)) (sym (read.found files told)) is;
+      usage = λ same. cc;
+      unread = λ name same. cc;
+      named = λ files name told same. cc;
+      read = λ other. read.steady (λ name same. cc);
+      unwritten = λ same. cc;
+      written = λ other. writes.steady (λ same. cc);
+      done = subst IsDone (sym is) (job_is_done job);
+      wanting = tt;
+    };
+    asks = job_asks (Some status);
+    written = record {
+      nothing = λ unwritten. absurd (done_is_written status (subst IsDone (sym is) (job_is_done job)) unwritten);
+      part = (job, writes.part);
+      told_part = λ files told. told_output files told (λ text. GrowsByPrefix (out.written k0) (out.written k1) text) writes.part;
+    };
+    refused = not_usage (Some status);
+  }
+
+  -- or its output wasn't written whole
+  stopped : (fault : WriteFault) → Writes {T = Status} (output_of_job job) (Err fault) out k0 k1 → Attempts words store s0 s1 out k0 k1 (Err (refusal_of fault))
+  stopped faults.Failed writes = record {
+    headline = λ files told stood out_stood. absurd (not_both _ _ (writes.failed refl) out_stood);
+    by = record {
+      of_case = λ files told stood. subst (λ (c : Result Job Refusal). Ends c (Err refusals.Write)) (sym (read.found files told)) (inl refl);
+      usage = λ same. cc;
+      unread = λ name same. cc;
+      named = λ files name told same. cc;
+      read = λ other. read.steady (λ name same. cc);
+      unwritten = λ same. writes.failed refl;
+      written = λ other. absurd (other refl);
+      done = tt;
+      wanting = tt;
+    };
+    asks = job_asks (Some FailedWrite);
+    written = record {
+      nothing = λ unwritten. absurd unwritten;
+      part = (job, writes.part);
+      told_part = λ files told. told_output files told (λ text. GrowsByPrefix (out.written k0) (out.written k1) text) writes.part;
+    };
+    refused = not_usage (Some FailedWrite);
+  }
+  stopped faults.NoMemory writes = record {
+    headline = λ files told stood out_stood. inl refl;
+    by = record {
+      of_case = λ files told stood. ends_early (wanted words files);
+      usage = λ same. cc;
+      unread = λ name same. cc;
+      named = λ files name told same. cc;
+      read = λ other. read.steady (λ name same. cc);
+      unwritten = λ same. cc;
+      written = λ other. writes.steady (λ same. cc);
+      done = tt;
+      wanting = tt;
+    };
+    asks = job_asks (Some NoMemory);
+    written = record {
+      nothing = λ unwritten. absurd unwritten;
+      part = (job, writes.part);
+      told_part = λ files told. told_output files told (λ text. GrowsByPrefix (out.written k0) (out.written k1) text) writes.part;
+    };
+    refused = not_usage (Some NoMemory);
+  }
+
+  pub attempt_stopped : (fault : WriteFault) (refusal : Refusal) → refusal ≡ refusal_of fault → Writes {T = Status} (output_of_job job) (Err fault) out k0 k1 → Attempts words store s0 s1 out k0 k1 (Err refusal)
+  attempt_stopped fault refusal is writes =
+      subst (λ (r : Refusal). Attempts words store s0 s1 out k0 k1 (Err r)) (sym is) (stopped fault writes)

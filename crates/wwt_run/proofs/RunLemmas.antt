@@ -1,5 +1,5 @@
 -- A run of the engine from the start, and what it comes to.
-use Rattle.std.proofs.Common.{◌≡◌, ℕ, suc, zero, ◌+◌, ◌<◌, Bool, Option, Result, Ok, Err, List, [], ◌∷◌, length, ap, ◌∙◌, subst, arith}
+use Rattle.std.proofs.Common.{◌≡◌, ℕ, suc, zero, ◌+◌, ◌<◌, Bool, Result, List, [], ◌∷◌, length, ap, ◌∙◌, subst, arith}
 use Rattle.std.specs.Prelude.{All, slice_index_or}
 use Rattle.wt_params.specs.declared.parts.MachineParts.{MachineParts}
 use Rattle.wt_params.specs.Machine.{IsMachine}
@@ -16,10 +16,10 @@ use Rattle.quantum.specs.Stations.{StationModel}
 use Rattle.quantum.specs.World.{World, start_of}
 use Rattle.engine.specs.Engine.{EngineModel, IsRunning, IsStationOf, IsUnbroken, nodes_of, world_of}
 use Rattle.wt_report.specs.declared.options.Options.{Options}
-use Rattle.wt_report.specs.declared.fault.ReportFault.{ReportFault}
-use Rattle.wt_report.specs.declared.fault.ReportFault.TheVariants.{Failed}
+use Rattle.wt_outside.specs.declared.fault.WriteFault.{WriteFault}
+use Rattle.wt_outside.specs.Views.{SinkView}
+use Rattle.wt_outside.proofs.WriteLemmas.{writes_same}
 use Rattle.wt_report.specs.Report.{logs_of, report}
-use Rattle.wt_outside.specs.Growth.{Grows}
 use Rattle.wt_outside.specs.Writes.{Writes}
 use Rattle.wt_report.specs.Stations as places
 use Rattle.wt_report.proofs.TraceOrder.{trace_is_serial}
@@ -87,11 +87,11 @@ module _ (machine : MachineParts) (loaded : LoadedImages) (options : Options) (e
   status_is = ap (λ (h : Head). status_after_of h.outcome (nodes_of engine.stations)) head_is ∙ ap (λ (w : World). status_after_of (outcome_of machine w) w.nodes) is
 
 -- a report of stations that are the engine's
-pub is_written : (machine : MachineParts) (loaded : LoadedImages) (options : Options) (engine : EngineModel) (head : Head) (stations : List StationModel) → IsUnbroken engine → engine.machine ≡ machine → world_of engine ≡ final_of machine loaded options.trace →
-    (IsUnbroken engine → head ≡ head_of engine.machine (world_of engine)) → stations ≡ engine.stations → (result : Result (Unit {0}) ReportFault) (before now : ℕ) (old new : Option (List ℕ)) →
-    Writes Failed (report machine head (nodes_of stations) options) result before now old new → Writes Failed (output_of_run machine loaded options) result before now old new
-is_written machine loaded options engine head stations unbroken machine_is is head_is same result before now old new writes =
-    subst (λ (text : List ℕ). Writes Failed text result before now old new)
+pub is_written : {K : Type 0} (machine : MachineParts) (loaded : LoadedImages) (options : Options) (engine : EngineModel) (head : Head) (stations : List StationModel) → IsUnbroken engine → engine.machine ≡ machine → world_of engine ≡ final_of machine loaded options.trace →
+    (IsUnbroken engine → head ≡ head_of engine.machine (world_of engine)) → stations ≡ engine.stations → (result : Result (Unit {0}) WriteFault) (view : SinkView K) (old new : K) →
+    Writes (report machine head (nodes_of stations) options) result view old new → Writes (output_of_run machine loaded options) result view old new
+is_written machine loaded options engine head stations unbroken machine_is is head_is same result view old new writes =
+    writes_same result
     (ap (λ (s : List StationModel). report machine head (nodes_of s) options) same
     ∙ output_is machine loaded options engine head is (head_is unbroken ∙ ap (λ (m : MachineParts). head_of m (world_of engine)) machine_is)) writes
 
@@ -100,7 +100,3 @@ pub is_status : (machine : MachineParts) (loaded : LoadedImages) (options : Opti
 is_status machine loaded options engine head stations unbroken machine_is is head_is same =
     ap (λ (s : List StationModel). status_after_of head.outcome (nodes_of s)) same
     ∙ status_is machine loaded options engine head is (head_is unbroken ∙ ap (λ (m : MachineParts). head_of m (world_of engine)) machine_is)
-
-pub all_written : (text : List ℕ) (result : Result (Unit {0}) ReportFault) (done : Unit {0}) (before now : ℕ) (old new : Option (List ℕ)) → result ≡ Ok done → Writes Failed text result before now old new → Grows old new text
-all_written text (Ok _) done before now old new is writes = writes.whole
-all_written text (Err fault) done before now old new is writes = cc

@@ -1,38 +1,47 @@
 -- What a call of the program answers, writes and says. Own.
-use Rattle.std.specs.Prelude.{ℕ, ◌≡◌, ◌⊎◌, List, Contains, Option, Some, Result, Ok, Err, IfOk, IfErr}
-use Rattle.wt_outside.specs.Faults.{Stood}
-use Rattle.wt_outside.specs.Files.{Files}
+use Rattle.std.specs.Prelude.{ℕ, ◌≡◌, ◌≢◌, ◌⊎◌, List, [], map, true, Contains, Option, Some, Result, Ok, Err, IfOk, IfErr, IfSome, String, string_bytes}
+use Rattle.std.specs.declared.alloc.Global.{Global}
+use Rattle.wt_outside.specs.Faults.{Rose, Stood}
+use Rattle.wt_outside.specs.Files.{Files, IsMissing}
 use Rattle.wt_outside.specs.Growth.{Grows, GrowsByPrefix}
+use Rattle.wt_outside.specs.Views.{StoreView, SinkView}
+use Rattle.wwt_words.specs.Words.{command_of}
 use Rattle.wwt_case.specs.declared.job.Job.{Job}
 use Rattle.wwt_case.specs.declared.refusal.Refusal.{Refusal}
-use Rattle.wwt_case.specs.declared.refusal.Refusal.TheVariants.{Read, Write, NoMemory}
-use Rattle.wwt_case.specs.Case.{case_of, names_of}
-use Rattle.wwt_case.specs.Reading.{Store, IsByItsName, IsSound}
+use Rattle.wwt_case.specs.declared.refusal.Refusal.TheVariants as refusals
+use Rattle.wwt_case.specs.Case.{case_of, names_of, is_usage_of}
+use Rattle.wwt_case.specs.Reading.{Asks, IsByItsName, IsSound}
 use Rattle.wwt_run.specs.declared.status.Status.{Status}
-use Rattle.wwt_run.specs.declared.status.Status.TheVariants.{Done, NodeFault, Usage, Budget, EventLimit, Stalled, BadMachine, BadImage, ReadFault}
-use Rattle.wwt_run.specs.Jobs.{status_of_job}
+use Rattle.wwt_run.specs.declared.status.Status.TheVariants.{Done, NodeFault, Usage, Budget, EventLimit, Stalled, BadMachine, BadImage, ReadFault, NoMemory}
+use Rattle.wwt_run.specs.Jobs.{status_of_job, status_of, output_of, output_of_job}
 use Rattle.wwt_run.specs.Refused.{line_of_end}
 use Rattle.wwt_run.specs.Status.{status_of_end}
 
--- A line was told: whole where no fault of its sink rose, and else a first part of it.
-pub record Tells (line : List ℕ) (before now : ℕ) (old new : Option (List ℕ)) : Type 0 where
-  pub whole : Stood before now → Grows old new line
-  pub part : GrowsByPrefix old new line
+-- the words of the command line, as texts
+abbrev pub Words : Type 0
+Words = List (String Global)
+
+abbrev pub texts_of : Words → List (List ℕ)
+texts_of words = map string_bytes words
+
+-- what the words and the files call for, and the names that are read for it
+abbrev pub wanted : Words → Files → Result Job Refusal
+wanted words = case_of (texts_of words)
+
+abbrev pub listed : Words → Files → List (List ℕ)
+listed words = names_of (texts_of words)
+
+-- the words are refused by themselves
+abbrev pub IsUsage : Words → Type 0
+IsUsage words = is_usage_of (command_of (texts_of words)) ≡ true
 
 -- How a call may end, by what it is called for: a job is done, unless its output can't be written; a refusal is that
 -- refusal. Want of memory may come in place of either.
 abbrev pub Ends : Result Job Refusal → Result Status Refusal → Type 0
 Ends (Ok job) (Ok status) = status ≡ status_of_job job
-Ends (Ok job) (Err refusal) = (refusal ≡ Write) ⊎ (refusal ≡ NoMemory)
+Ends (Ok job) (Err refusal) = (refusal ≡ refusals.Write) ⊎ (refusal ≡ refusals.NoMemory)
 Ends (Err reason) (Ok status) = ⊥
-Ends (Err reason) (Err refusal) = (refusal ≡ reason) ⊎ (refusal ≡ NoMemory)
-
--- the refusals before anything is written
-abbrev pub IsEarly : Result Status Refusal → Type 0
-IsEarly (Ok status) = ⊥
-IsEarly (Err Write) = ⊥
-IsEarly (Err NoMemory) = ⊥
-IsEarly (Err _) = Unit {0}
+Ends (Err reason) (Err refusal) = (refusal ≡ reason) ⊎ (refusal ≡ refusals.NoMemory)
 
 -- the statuses of a job that was done
 abbrev pub IsDone : Status → Type 0
@@ -51,13 +60,68 @@ IsUnwritten BadImage = Unit {0}
 IsUnwritten ReadFault = Unit {0}
 IsUnwritten _ = ⊥
 
--- How a call ended, and that the one line that was told is the line of this end. What ends the call doesn't depend on
--- the sink of the line: a fault there changes neither status nor output.
-pub record Ended {S : Type 0} (words : List (List ℕ)) (store : Store S) (status : Option Status) (before now : ℕ) (old new : Option (List ℕ)) : Type 0 where
-  pub end : Result Status Refusal
-  pub status_is : status ≡ Some (status_of_end end)
-  pub of_case : (files : Files) → store.files ≡ Some files → IsSound store → Ends (case_of words files) end
-  pub named : (files : Files) (name : List ℕ) → store.files ≡ Some files → end ≡ Err (Read name) → Contains (names_of words files) name
+-- A line was told: whole where no fault of its sink rose, and else a first part of it.
+pub record Tells {E : Type 0} (line : List ℕ) (err : SinkView E) (old new : E) : Type 0 where
+  pub whole : Stood (err.faults old) (err.faults new) → Grows (err.written old) (err.written new) line
+  pub part : GrowsByPrefix (err.written old) (err.written new) line
+
+-- In what follows a call takes a store from s0 to s1, its output from k0 to k1, and the sink of its line from e0 to e1.
+
+-- The headline: what is written is the output of what the words and the files call for, a report that of the serial
+-- simulation, and the status is its status. No other answer may come, but for want of memory.
+abbrev pub Headline : {S K : Type 0} → Words → StoreView S → S → S → SinkView K → K → K → Option Status → Type 0
+Headline words store s0 s1 out k0 k1 result =
+    (files : Files) → store.files s0 ≡ Some files → IsSound store s0 s1 → Stood (out.faults k0) (out.faults k1)
+    → (result ≡ Some NoMemory)
+    ⊎ ((result ≡ Some (status_of (wanted words files)))
+    × Grows (out.written k0) (out.written k1) (output_of (wanted words files)))
+
+-- How a call ended: as the told files call for, whatever the sinks did, or by a fault that the outside alone makes, and
+-- that is never passed over.
+pub record EndsBy {S K : Type 0} (words : Words) (store : StoreView S) (s0 s1 : S) (out : SinkView K) (k0 k1 : K) (end : Result Status Refusal) : Type 0 where
+  pub of_case : (files : Files) → store.files s0 ≡ Some files → IsSound store s0 s1 → Ends (wanted words files) end
+  pub usage : end ≡ Err refusals.Usage → IsUsage words
+  -- a file that can't be read: its name is one that the told files lack, or a fault rose; and it is one of the listed
+  pub unread : (name : List ℕ) → end ≡ Err (refusals.Read name) → Rose (store.faults s0) (store.faults s1) ⊎ IsMissing (store.files s0) name
+  pub named : (files : Files) (name : List ℕ) → store.files s0 ≡ Some files → end ≡ Err (refusals.Read name) → Contains (listed words files) name
+  pub read : ((name : List ℕ) → end ≢ Err (refusals.Read name)) → store.faults s1 ≡ store.faults s0
+  -- an output that can't be written
+  pub unwritten : end ≡ Err refusals.Write → Rose (out.faults k0) (out.faults k1)
+  pub written : (end ≢ Err refusals.Write) → out.faults k1 ≡ out.faults k0
   pub done : IfOk end IsDone
   pub wanting : IfErr end IsByItsName
-  pub line : Tells (line_of_end end) before now old new
+
+-- How a call ended, and that the one line that was told is the line of this end. What ends the call doesn't depend on
+-- the sink of the line: a fault there changes neither status nor output.
+pub record Ended {S K E : Type 0} (words : Words) (store : StoreView S) (s0 s1 : S) (out : SinkView K) (k0 k1 : K) (err : SinkView E) (e0 e1 : E) (result : Option Status) : Type 0 where
+  pub end : Result Status Refusal
+  pub status_is : result ≡ Some (status_of_end end)
+  pub by : EndsBy words store s0 s1 out k0 k1 end
+  pub line : Tells (line_of_end end) err e0 e1
+
+-- Each name that the case lists is read once, in order, and none after a refusal: all of them where no fault of the
+-- store rose and memory wasn't wanted, else a first part of them.
+abbrev pub AsksInOrder : {S : Type 0} → Words → StoreView S → S → S → Option Status → Type 0
+AsksInOrder words store s0 s1 result =
+    Asks (listed words) store s0 s1 (IsSound store s0 s1 × (result ≢ Some NoMemory))
+
+-- What is written: nothing before all is read and loaded, and always a first part of the output of some job, of told
+-- files that of their case.
+pub record Written {K : Type 0} (words : Words) (told : Option Files) (out : SinkView K) (k0 k1 : K) (result : Option Status) : Type 0 where
+  pub nothing : IfSome result IsUnwritten → Grows (out.written k0) (out.written k1) []
+  pub part : (job : Job) × GrowsByPrefix (out.written k0) (out.written k1) (output_of_job job)
+  pub told_part : (files : Files) → told ≡ Some files → GrowsByPrefix (out.written k0) (out.written k1) (output_of (wanted words files))
+
+-- The words are refused: nothing is read or written.
+pub record Untouched {S K : Type 0} (s0 s1 : S) (k0 k1 : K) (result : Option Status) : Type 0 where
+  pub status_is : (result ≡ Some Usage) ⊎ (result ≡ Some NoMemory)
+  pub store : s1 ≡ s0
+  pub out : k1 ≡ k0
+
+-- All of this of a call that hasn't told its line yet.
+pub record Attempts {S K : Type 0} (words : Words) (store : StoreView S) (s0 s1 : S) (out : SinkView K) (k0 k1 : K) (end : Result Status Refusal) : Type 0 where
+  pub headline : Headline words store s0 s1 out k0 k1 (Some (status_of_end end))
+  pub by : EndsBy words store s0 s1 out k0 k1 end
+  pub asks : AsksInOrder words store s0 s1 (Some (status_of_end end))
+  pub written : Written words (store.files s0) out k0 k1 (Some (status_of_end end))
+  pub refused : IsUsage words → Untouched s0 s1 k0 k1 (Some (status_of_end end))

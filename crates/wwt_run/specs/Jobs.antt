@@ -9,9 +9,9 @@ use Rattle.node.specs.React.{wind_tunnel}
 use Rattle.wwt_case.specs.declared.job.Job.{Job}
 use Rattle.wwt_case.specs.declared.job.Job.TheVariants.{Check, Dis, Flat, Run, Load}
 use Rattle.wwt_case.specs.declared.refusal.Refusal.{Refusal}
+use Rattle.wt_outside.specs.declared.fault.WriteFault.{WriteFault}
+use Rattle.wt_outside.specs.declared.fault.WriteFault.TheVariants as faults
 use Rattle.wwt_case.specs.declared.refusal.Refusal.TheVariants as refusals
-use Rattle.wt_listing.specs.declared.fault.ListingFault.{ListingFault}
-use Rattle.wt_listing.specs.declared.fault.ListingFault.TheVariants.{Failed, NoMemory}
 use Rattle.wwt_run.specs.declared.status.Status.{Status}
 use Rattle.wwt_run.specs.declared.status.Status.TheVariants.{Done}
 use Rattle.quantum.specs.World.{World, start_of}
@@ -74,8 +74,12 @@ abbrev pub output_of : Result Job Refusal → List ℕ
 output_of (Ok job) = output_of_job job
 output_of (Err refusal) = []
 
--- how writing a text ends a job
-abbrev pub WritingEnds : Result (Unit {0}) ListingFault → Result Status Refusal → Type 0
-WritingEnds (Ok _) result = result ≡ Ok Done
-WritingEnds (Err Failed) result = result ≡ Err refusals.Write
-WritingEnds (Err NoMemory) result = result ≡ Err refusals.NoMemory
+-- how writing a text ends a job that has no other status
+abbrev pub done_of : Result (Unit {0}) WriteFault → Result Status WriteFault
+done_of (Ok _) = Ok Done
+done_of (Err fault) = Err fault
+
+-- the refusal of an output that wasn't written whole
+abbrev pub refusal_of : WriteFault → Refusal
+refusal_of faults.Failed = refusals.Write
+refusal_of faults.NoMemory = refusals.NoMemory

@@ -1,32 +1,26 @@
-ghost use Rattle.std.specs.Prelude.{◌≡◌, ◌≢◌, ◌≤◌, ◌⊎◌, Err, IfOk, IfErr, OnOk, IsErrOf};
-ghost use Rattle.wt_outside.specs.Faults.{Rose};
-ghost use Rattle.wt_outside.specs.Growth.{Grows, GrowsByPrefix};
+ghost use Rattle.std.specs.Prelude.{◌≡◌, IfOk};
+ghost use Rattle.wt_outside.specs.Writes.{Writes};
 ghost use Rattle.wwt_case.specs.Case.{IsReady};
-ghost use Rattle.wwt_run.specs.Jobs.{WritingEnds, asked_of, output_of_job, status_of_job, summary_of};
+ghost use Rattle.wwt_run.specs.Jobs.{asked_of, done_of, output_of_job, status_of_job, summary_of};
 
 use crate::run::run;
 use crate::status::Status;
 use std::alloc::Global;
-use wt_listing::{ListingFault, write_machine, write_words};
-use wt_outside::Sink;
+use wt_listing::{write_machine, write_words};
+use wt_outside::{Sink, WriteFault};
 use wt_params::Machine;
 use wt_report::Options;
-use wwt_case::{Job, Refusal};
+use wwt_case::Job;
 
 /// Does a job: writes its output, and answers its status.
-pub fn perform<K: Sink>(alloc: Global, job: &Job, out: &mut K) -> Result<Status, Refusal>
+pub fn perform<K: Sink>(alloc: Global, job: &Job, out: &mut K) -> Result<Status, WriteFault>
     requires { IsReady job.now }
     ensures status { IfOk result (λ status. status ≡ status_of_job job.now) }
-    ensures whole { OnOk result (Grows (K.written out.old) (K.written out.new) (output_of_job job.now)) }
-    ensures part { GrowsByPrefix (K.written out.old) (K.written out.new) (output_of_job job.now) }
-    ensures kinds { IfErr result (λ refusal. (refusal ≡ Refusal.Write) ⊎ (refusal ≡ Refusal.NoMemory)) }
-    ensures failed { IsErrOf result Refusal.Write → Rose (K.faults out.old) (K.faults out.new) }
-    ensures steady { (result ≢ Err Refusal.Write) → K.faults out.new ≡ K.faults out.old }
-    ensures later { K.faults out.old ≤ K.faults out.new }
+    ensures writes { Writes (output_of_job job.now) result K.view out.old out.new }
 {
     match job {
-        Job::Check { machine, loaded } => written(write_machine(alloc, machine, loaded, out)),
-        Job::Dis { image } => written(write_words(alloc, image, out)),
+        Job::Check { machine, loaded } => done(write_machine(alloc, machine, loaded, out)),
+        Job::Dis { image } => done(write_words(alloc, image, out)),
         Job::Flat { loaded } => run(alloc, &Machine::flat(), loaded, &asked(false, false), out),
         Job::Run {
             machine,
@@ -38,14 +32,13 @@ pub fn perform<K: Sink>(alloc: Global, job: &Job, out: &mut K) -> Result<Status,
     }
 }
 
-/// How writing a text ends a job.
-fn written(writing: Result<(), ListingFault>) -> Result<Status, Refusal>
-    ensures { WritingEnds writing result }
+/// How writing a text ends a job that has no other status.
+fn done(writing: Result<(), WriteFault>) -> Result<Status, WriteFault>
+    ensures { result ≡ done_of writing }
 {
     match writing {
         Ok(()) => Ok(Status::Done),
-        Err(ListingFault::Failed) => Err(Refusal::Write),
-        Err(ListingFault::NoMemory) => Err(Refusal::NoMemory),
+        Err(fault) => Err(fault),
     }
 }
 

@@ -24,7 +24,7 @@ const USAGE: &[u8] =
 #[tactic(auto, unfolding(crate::specs::Refused::error_line))]
 pub fn refuse<E: Sink>(refusal: &Refusal, err: &mut E) -> Status
     ensures status { result ≡ status_of_refusal refusal.now }
-    ensures line { Tells (error_line refusal.now) (E.faults err.old) (E.faults err.new) (E.written err.old) (E.written err.new) }
+    ensures line { Tells (error_line refusal.now) E.view err.old err.new }
 {
     match refusal {
         Refusal::Usage => {
@@ -62,7 +62,7 @@ pub fn refuse<E: Sink>(refusal: &Refusal, err: &mut E) -> Status
 #[tactic(auto, unfolding(crate::specs::Refused::error_line))]
 pub fn out_of_memory<E: Sink>(err: &mut E) -> Status
     ensures status { result ≡ status_of_refusal NoMemory }
-    ensures line { Tells (error_line NoMemory) (E.faults err.old) (E.faults err.new) (E.written err.old) (E.written err.new) }
+    ensures line { Tells (error_line NoMemory) E.view err.old err.new }
 {
     say(&Refusal::NoMemory, &[b"wwt: out of memory", b"\n"], err);
     Status::NoMemory
@@ -71,7 +71,7 @@ pub fn out_of_memory<E: Sink>(err: &mut E) -> Status
 #[tactic(auto, unfolding(crate::specs::Refused::error_line))]
 fn refuse_machine<E: Sink>(refusal: &Refusal, fault: &MachineFault, err: &mut E)
     requires { refusal.now ≡ Machine fault.now }
-    ensures { Tells (error_line refusal.now) (E.faults err.old) (E.faults err.new) (E.written err.old) (E.written err.new) }
+    ensures { Tells (error_line refusal.now) E.view err.old err.new }
 {
     match fault {
         MachineFault::TooLong => say(refusal, &[b"wwt: machine: ", b"too long", b"\n"], err),
@@ -117,7 +117,7 @@ fn refuse_machine<E: Sink>(refusal: &Refusal, fault: &MachineFault, err: &mut E)
 #[tactic(auto, unfolding(crate::specs::Refused::error_line))]
 fn refuse_range<E: Sink>(refusal: &Refusal, key: &[u8], value: u64, err: &mut E)
     requires { refusal.now ≡ Machine (Range key.now value) }
-    ensures { Tells (error_line refusal.now) (E.faults err.old) (E.faults err.new) (E.written err.old) (E.written err.new) }
+    ensures { Tells (error_line refusal.now) E.view err.old err.new }
 {
     let mut buffer = Buffer::new();
     let number = buffer.format(value).as_bytes();
@@ -131,7 +131,7 @@ fn refuse_range<E: Sink>(refusal: &Refusal, key: &[u8], value: u64, err: &mut E)
 #[tactic(auto, unfolding(crate::specs::Refused::error_line))]
 fn refuse_image<E: Sink>(refusal: &Refusal, number: u32, why: ImageRefusal, err: &mut E)
     requires { refusal.now ≡ Image number why }
-    ensures { Tells (error_line refusal.now) (E.faults err.old) (E.faults err.new) (E.written err.old) (E.written err.new) }
+    ensures { Tells (error_line refusal.now) E.view err.old err.new }
 {
     let mut buffer = Buffer::new();
     let image = buffer.format(number).as_bytes();
@@ -202,7 +202,7 @@ fn eight_digits(word: u32) -> [u8; 8]
 /// Writes the line of a refusal, which comes in parts, up to the first part that fails.
 fn say<E: Sink>(refusal: &Refusal, parts: &[&[u8]], err: &mut E)
     requires { joined (map (λ part. part.now) parts.now) ≡ error_line refusal.now }
-    ensures { Tells (error_line refusal.now) (E.faults err.old) (E.faults err.new) (E.written err.old) (E.written err.new) }
+    ensures { Tells (error_line refusal.now) E.view err.old err.new }
 {
     for part in parts {
         match say_part(err, part) {
@@ -214,10 +214,10 @@ fn say<E: Sink>(refusal: &Refusal, parts: &[&[u8]], err: &mut E)
 
 /// Writes a part of a line.
 fn say_part<E: Sink>(err: &mut E, part: &[u8]) -> Result<(), Failed>
-    ensures ok { OnOk result (Grows (E.written err.old) (E.written err.new) part.now) }
-    ensures err { OnErr result (GrowsByPrefix (E.written err.old) (E.written err.new) part.now) }
-    ensures steady { OnOk result (E.faults err.new ≡ E.faults err.old) }
-    ensures failed { OnErr result (Rose (E.faults err.old) (E.faults err.new)) }
+    ensures ok { OnOk result (Grows (E.view.written err.old) (E.view.written err.new) part.now) }
+    ensures err { OnErr result (GrowsByPrefix (E.view.written err.old) (E.view.written err.new) part.now) }
+    ensures steady { OnOk result (E.view.faults err.new ≡ E.view.faults err.old) }
+    ensures failed { OnErr result (Rose (E.view.faults err.old) (E.view.faults err.new)) }
 {
     if part.is_empty() {
         return Ok(());

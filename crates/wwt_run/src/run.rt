@@ -1,8 +1,7 @@
-ghost use Rattle.std.specs.Prelude.{◌≡◌, ◌≢◌, ◌≤◌, ◌⊎◌, Err, IfOk, IfErr, OnOk, IsErrOf};
+ghost use Rattle.std.specs.Prelude.{◌≡◌, IfOk};
 ghost use Rattle.std.specs.List.{list_all};
 ghost use Rattle.image_loader.specs.Images.{IsFor};
-ghost use Rattle.wt_outside.specs.Faults.{Rose};
-ghost use Rattle.wt_outside.specs.Growth.{Grows, GrowsByPrefix};
+ghost use Rattle.wt_outside.specs.Writes.{Writes};
 ghost use Rattle.engine.specs.Engine.{nodes_of};
 ghost use Rattle.node.specs.State.{exits_well};
 ghost use Rattle.wwt_run.specs.Jobs.{output_of_run, status_of_run};
@@ -13,12 +12,11 @@ use crate::status::Status;
 use image_loader::Loaded;
 use quantum::Station;
 use std::alloc::Global;
-use wt_outside::Sink;
+use wt_outside::{Sink, WriteFault};
 use wt_params::Machine;
 use wt_proto::{Cause, Mode};
-use wt_report::{Options, ReportFault, write_report};
+use wt_report::{Options, write_report};
 use wt_stats::Outcome;
-use wwt_case::Refusal;
 
 /// Runs a machine, and writes the report.
 pub fn run<K: Sink>(
@@ -27,23 +25,17 @@ pub fn run<K: Sink>(
     loaded: &Loaded,
     options: &Options,
     out: &mut K,
-) -> Result<Status, Refusal>
+) -> Result<Status, WriteFault>
     requires { IsFor machine.now loaded.now }
     ensures status { IfOk result (λ status. status ≡ status_of_run machine.now loaded.now options.now) }
-    ensures whole { OnOk result (Grows (K.written out.old) (K.written out.new) (output_of_run machine.now loaded.now options.now)) }
-    ensures part { GrowsByPrefix (K.written out.old) (K.written out.new) (output_of_run machine.now loaded.now options.now) }
-    ensures kinds { IfErr result (λ refusal. (refusal ≡ Refusal.Write) ⊎ (refusal ≡ Refusal.NoMemory)) }
-    ensures failed { IsErrOf result Refusal.Write → Rose (K.faults out.old) (K.faults out.new) }
-    ensures steady { (result ≢ Err Refusal.Write) → K.faults out.new ≡ K.faults out.old }
-    ensures later { K.faults out.old ≤ K.faults out.new }
+    ensures writes { Writes (output_of_run machine.now loaded.now options.now) result K.view out.old out.new }
 {
     let engine = simulate(alloc, machine, loaded, options.trace)?;
     let head = engine.head();
     let stations = engine.stations();
     match write_report(alloc, &head, machine, stations, options, out) {
         Ok(()) => Ok(status_after(head.outcome, stations)),
-        Err(ReportFault::Failed) => Err(Refusal::Write),
-        Err(ReportFault::NoMemory) => Err(Refusal::NoMemory),
+        Err(fault) => Err(fault),
     }
 }
 

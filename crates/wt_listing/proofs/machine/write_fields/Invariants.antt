@@ -6,5 +6,4 @@ use Rattle.wt_listing.proofs.machine.write_fields.Given as goal
 -- The lines of the fields so far are written.
 abbrev pub invariant-loop-field : goal.invariant-loop-field
 invariant-loop-field g l =
-    HasWritten (flat_map (field_line_of l.machine) (take l.field-index l.fields)) (g.K.Sink.faults l.fn.out)
-    (g.K.Sink.faults l.out) (g.K.Sink.written l.fn.out) (g.K.Sink.written l.out)
+    HasWritten (flat_map (field_line_of l.machine) (take l.field-index l.fields)) g.K.Sink.view l.fn.out l.out

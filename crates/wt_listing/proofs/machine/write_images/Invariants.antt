@@ -7,5 +7,4 @@ use Rattle.wt_listing.proofs.machine.write_images.Given as goal
 -- The lines of the images so far are written.
 abbrev pub invariant-loop-number : goal.invariant-loop-number
 invariant-loop-number g l =
-    HasWritten (flat_map image_line_of (take l.number (enumerate_from 0 l.images))) (g.K.Sink.faults l.fn.out)
-    (g.K.Sink.faults l.out) (g.K.Sink.written l.fn.out) (g.K.Sink.written l.out)
+    HasWritten (flat_map image_line_of (take l.number (enumerate_from 0 l.images))) g.K.Sink.view l.fn.out l.out

@@ -9,5 +9,5 @@ abbrev pub invariant-loop-number : goal.invariant-loop-number
 invariant-loop-number g l = record {
   address : l.address ≡ address_of l.segment l.number;
   written : HasWritten (flat_map (segment_line_of l.segment) (take l.number (range_with_len 0 (length l.segment.bytes / 4))))
-      (g.K.Sink.faults l.fn.out) (g.K.Sink.faults l.out) (g.K.Sink.written l.fn.out) (g.K.Sink.written l.out);
+      g.K.Sink.view l.fn.out l.out;
 }

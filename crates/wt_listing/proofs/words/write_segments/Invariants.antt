@@ -6,5 +6,4 @@ use Rattle.wt_listing.proofs.words.write_segments.Given as goal
 -- The words of the segments so far are written.
 abbrev pub invariant-loop-segment : goal.invariant-loop-segment
 invariant-loop-segment g l =
-    HasWritten (flat_map segment_text (take l.segment-index l.segments)) (g.K.Sink.faults l.fn.out)
-    (g.K.Sink.faults l.out) (g.K.Sink.written l.fn.out) (g.K.Sink.written l.out)
+    HasWritten (flat_map segment_text (take l.segment-index l.segments)) g.K.Sink.view l.fn.out l.out

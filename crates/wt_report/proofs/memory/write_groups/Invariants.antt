@@ -8,4 +8,4 @@ use Rattle.wt_report.proofs.memory.write_groups.Given as goal
 abbrev pub invariant-loop-number : goal.invariant-loop-number
 invariant-loop-number g l =
     HasWritten (flat_map (group_text_at l.memory l.address l.bytes) (take l.number (range_with_len 0 (length l.bytes / 16))))
-    (g.K.Sink.faults l.fn.out) (g.K.Sink.faults l.out) (g.K.Sink.written l.fn.out) (g.K.Sink.written l.out)
+    g.K.Sink.view l.fn.out l.out

@@ -8,5 +8,4 @@ use Rattle.wt_report.proofs.memory.write_own.Given as goal
 -- The memories of the nodes so far are written.
 abbrev pub invariant-loop-place : goal.invariant-loop-place
 invariant-loop-place g l =
-    HasWritten (flat_map node_memory_text (take l.place (enumerate_from 0 (nodes_of l.stations)))) (g.K.Sink.faults l.fn.out)
-    (g.K.Sink.faults l.out) (g.K.Sink.written l.fn.out) (g.K.Sink.written l.out)
+    HasWritten (flat_map node_memory_text (take l.place (enumerate_from 0 (nodes_of l.stations)))) g.K.Sink.view l.fn.out l.out

@@ -8,5 +8,4 @@ use Rattle.wt_report.proofs.nodes.write_nodes.Given as goal
 -- The lines of the nodes so far are written.
 abbrev pub invariant-loop-place : goal.invariant-loop-place
 invariant-loop-place g l =
-    HasWritten (flat_map (node_text l.machine) (take l.place (enumerate_from 0 (nodes_of l.stations)))) (g.K.Sink.faults l.fn.out)
-    (g.K.Sink.faults l.out) (g.K.Sink.written l.fn.out) (g.K.Sink.written l.out)
+    HasWritten (flat_map (node_text l.machine) (take l.place (enumerate_from 0 (nodes_of l.stations)))) g.K.Sink.view l.fn.out l.out

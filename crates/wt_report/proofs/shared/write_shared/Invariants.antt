@@ -9,4 +9,4 @@ use Rattle.wt_report.proofs.shared.write_shared.Given as goal
 abbrev pub invariant-loop-block : goal.invariant-loop-block
 invariant-loop-block g l =
     HasWritten (flat_map (block_text l.machine (nodes_of l.stations)) (take l.block (range_with_len 0 l.machine.blocks)))
-    (g.K.Sink.faults l.fn.out) (g.K.Sink.faults l.out) (g.K.Sink.written l.fn.out) (g.K.Sink.written l.out)
+    g.K.Sink.view l.fn.out l.out

@@ -7,4 +7,4 @@ prepare_command-requires g c = in_their_ranges _ c.in-Ok.command c.in-Ok.ensures
 
 pub returns-in-Ok-clause-read : goal.returns-in-Ok-clause-read
 returns-in-Ok-clause-read g c =
-    of_words _ c.in-Ok.command _ c.prepare_command.result c.in-Ok.ensures c.prepare_command.ensures.read
+    of_words _ c.in-Ok.command _ _ _ c.prepare_command.result c.in-Ok.ensures c.prepare_command.ensures.read

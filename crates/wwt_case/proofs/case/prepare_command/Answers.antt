@@ -3,18 +3,18 @@ use Rattle.wwt_case.proofs.case.prepare_command.Goals as goal
 
 pub returns-in-Check-clause-read : goal.returns-in-Check-clause-read
 returns-in-Check-clause-read g c =
-    of_check _ c.in-Check.machine _ _ c.prepare_check.result c.in-Check.is c.get.ensures c.prepare_check.ensures.read
+    of_check _ c.in-Check.machine _ _ _ _ c.prepare_check.result c.in-Check.is c.get.ensures c.prepare_check.ensures.read
 
 pub returns-in-Dis-clause-read : goal.returns-in-Dis-clause-read
 returns-in-Dis-clause-read g c =
-    of_dis _ c.in-Dis.image _ _ c.prepare_dis.result c.in-Dis.is c.get-in-Dis.ensures c.prepare_dis.ensures.read
+    of_dis _ c.in-Dis.image _ _ _ _ c.prepare_dis.result c.in-Dis.is c.get-in-Dis.ensures c.prepare_dis.ensures.read
 
 pub returns-in-Flat-clause-read : goal.returns-in-Flat-clause-read
-returns-in-Flat-clause-read g c = of_flat _ _ c.prepare_flat.result c.in-Flat.is c.prepare_flat.ensures.read
+returns-in-Flat-clause-read g c = of_flat _ _ _ _ c.prepare_flat.result c.in-Flat.is c.prepare_flat.ensures.read
 
 pub returns-then-workers-eq1-clause-read : goal.returns-then-workers-eq1-clause-read
 returns-then-workers-eq1-clause-read g c =
-    of_run _ c.in-Run.workers c.in-Run.trace c.in-Run.memory c.in-Run.budget c.in-Run.machine _ _ c.prepare_run.result c.in-Run.is c.if-workers-eq1.true c.get-then-workers-eq1.ensures c.prepare_run.ensures.read
+    of_run _ c.in-Run.workers c.in-Run.trace c.in-Run.memory c.in-Run.budget c.in-Run.machine _ _ _ _ c.prepare_run.result c.in-Run.is c.if-workers-eq1.true c.get-then-workers-eq1.ensures c.prepare_run.ensures.read
 
 pub returns-then-workers-eq1-2-clause-read : goal.returns-then-workers-eq1-2-clause-read
-returns-then-workers-eq1-2-clause-read g c = of_load _ c.in-Load.number c.in-Load.workers _ c.prepare_load.result c.in-Load.is c.if-workers-eq1-2.true c.prepare_load.ensures.read
+returns-then-workers-eq1-2-clause-read g c = of_load _ c.in-Load.number c.in-Load.workers _ _ _ c.prepare_load.result c.in-Load.is c.if-workers-eq1-2.true c.prepare_load.ensures.read

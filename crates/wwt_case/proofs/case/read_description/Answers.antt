@@ -7,10 +7,10 @@ use Rattle.wwt_case.proofs.case.read_description.Goals as goal
 
 pub returns-in-Err-clause-read : goal.returns-in-Err-clause-read
 returns-in-Err-clause-read g c =
-    reads_named description_case _ _ _ _ c.in_ok-file.ensures
-    (reads_ended _ _ (λ bytes. description_or (description_of bytes)) _ c.in-Err.refusal c.in-Err.ensures.read)
+    reads_named description_case _ _ _ _ _ _ c.in_ok-file.ensures
+    (reads_ended _ _ (λ bytes. description_or (description_of bytes)) _ _ _ c.in-Err.refusal c.in-Err.ensures.read)
 
 pub returns-in-Ok-clause-read : goal.returns-in-Ok-clause-read
 returns-in-Ok-clause-read g c =
-    reads_named description_case _ _ _ _ c.in_ok-file.ensures
-    (reads_and _ _ (λ bytes. description_or (description_of bytes)) _ _ _ _ _ c.in-Ok.bytes c.describe.result c.in-Ok.ensures.read (described _ _ _ c.get.ensures c.describe.ensures.answer) (description_reads_nothing _))
+    reads_named description_case _ _ _ _ _ _ c.in_ok-file.ensures
+    (reads_and _ _ (λ bytes. description_or (description_of bytes)) _ _ _ c.in-Ok.bytes c.describe.result c.in-Ok.ensures.read (described _ _ _ c.get.ensures c.describe.ensures.answer) (description_reads_nothing _))

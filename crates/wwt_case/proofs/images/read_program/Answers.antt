@@ -7,23 +7,11 @@ use Rattle.wwt_case.proofs.images.read_program.Goals as goal
 
 pub returns-in-Err-clause-read : goal.returns-in-Err-clause-read
 returns-in-Err-clause-read g c =
-    subst (λ n. Reads (file_image c.args.number n c.args.elf c.args.at) (λ _. n ∷ []) (record {
-      files = g.S.Store.files c.args.store.now;
-      faults = g.S.Store.faults;
-      asked = g.S.Store.asked;
-      before = c.args.store.now;
-      now = c.read_file.new.store;
-    }) (Err c.in-Err.refusal)) c.in_ok-file.ensures
-    (reads_ended _ _ (program_of c.args.number c.args.elf c.args.at) _ c.in-Err.refusal c.in-Err.ensures.read)
+    subst (λ n. Reads (file_image c.args.number n c.args.elf c.args.at) (λ _. n ∷ []) g.S.Store.view c.args.store.now c.read_file.new.store (Err c.in-Err.refusal)) c.in_ok-file.ensures
+    (reads_ended _ _ (program_of c.args.number c.args.elf c.args.at) _ _ _ c.in-Err.refusal c.in-Err.ensures.read)
 
 pub returns-in-Ok-clause-read : goal.returns-in-Ok-clause-read
 returns-in-Ok-clause-read g c =
-    subst (λ n. Reads (file_image c.args.number n c.args.elf c.args.at) (λ _. n ∷ []) (record {
-      files = g.S.Store.files c.args.store.now;
-      faults = g.S.Store.faults;
-      asked = g.S.Store.asked;
-      before = c.args.store.now;
-      now = c.read_file.new.store;
-    }) c.program.result) c.in_ok-file.ensures
-    (reads_and _ _ (program_of c.args.number c.args.elf c.args.at) _ _ _ _ _ c.in-Ok.bytes c.program.result c.in-Ok.ensures.read c.program.ensures.answer
+    subst (λ n. Reads (file_image c.args.number n c.args.elf c.args.at) (λ _. n ∷ []) g.S.Store.view c.args.store.now c.read_file.new.store c.program.result) c.in_ok-file.ensures
+    (reads_and _ _ (program_of c.args.number c.args.elf c.args.at) _ _ _ c.in-Ok.bytes c.program.result c.in-Ok.ensures.read c.program.ensures.answer
     (program_reads_nothing c.args.number c.args.elf c.args.at c.in-Ok.bytes))

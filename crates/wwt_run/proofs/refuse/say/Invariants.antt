@@ -6,6 +6,6 @@ use Rattle.wwt_run.proofs.refuse.say.Given as goal
 -- The parts so far are written, and nothing has failed.
 abbrev pub invariant-loop-part : goal.invariant-loop-part
 invariant-loop-part g l = record {
-  written : Grows (g.E.Sink.written l.fn.err) (g.E.Sink.written l.err) (joined (take l.part-index (map (λ part. part.now) l.parts)));
-  steady : g.E.Sink.faults l.err ≡ g.E.Sink.faults l.fn.err;
+  written : Grows (g.E.Sink.view.written l.fn.err) (g.E.Sink.view.written l.err) (joined (take l.part-index (map (λ part. part.now) l.parts)));
+  steady : g.E.Sink.view.faults l.err ≡ g.E.Sink.view.faults l.fn.err;
 }

@@ -1,25 +1,21 @@
-use Rattle.std.proofs.Common.{[], refl, sym, ◌∙◌}
-use Rattle.std.proofs.lemmas.Bool.{false≢true}
-use Rattle.wt_outside.proofs.GrowthLemmas.{prefix_nothing}
-use Rattle.wwt_case.specs.declared.job.Job.TheVariants.{Dis}
-use Rattle.wwt_run.proofs.AnswerLemmas.{end_is_done, by_its_name, asks_when}
+use Rattle.wwt_run.proofs.AnswerLemmas.{attempt_done, attempt_refused, attempt_stopped}
 use Rattle.wwt_run.proofs.top.attempt.Goals as goal
 
-pub returns-in-Ok-clause-untouched : goal.returns-in-Ok-clause-untouched
-returns-in-Ok-clause-untouched g c = λ usage. absurd (false≢true (sym c.in-Ok.ensures.accepted ∙ usage))
+pub returns-in-Ok-perform : goal.returns-in-Ok-perform
+returns-in-Ok-perform g c =
+    let prepared = c.in-Ok.ensures in
+    let performed = c.in-Ok-perform.ensures in
+    attempt_done c.args.words.now _ _ _ _ _ _ c.in-Ok.job prepared.read prepared.accepted c.in-Ok-perform.status performed.status
+    performed.writes
 
-pub returns-in-Ok-clause-refused : goal.returns-in-Ok-clause-refused
-returns-in-Ok-clause-refused g c = λ usage. absurd (false≢true (sym c.in-Ok.ensures.accepted ∙ usage))
+pub returns-in-Ok : goal.returns-in-Ok
+returns-in-Ok g c =
+    let prepared = c.in-Ok.ensures in
+    attempt_stopped c.args.words.now _ _ _ _ _ _ c.in-Ok.job prepared.read prepared.accepted c.in-Err-perform.fault c.refusal.result
+    c.refusal.ensures c.in-Err-perform.ensures.writes
 
-pub returns-in-Ok-clause-wanting : goal.returns-in-Ok-clause-wanting
-returns-in-Ok-clause-wanting g c = by_its_name c.perform.result c.perform.ensures.kinds
-
--- nothing is the first part of any output
-pub returns-in-Err-clause-part : goal.returns-in-Err-clause-part
-returns-in-Err-clause-part g c = (Dis (record { entry = 0; segments = [] }), prefix_nothing refl)
-
-pub returns-in-Ok-clause-done : goal.returns-in-Ok-clause-done
-returns-in-Ok-clause-done g c = end_is_done c.in-Ok.job c.perform.result c.perform.ensures.status
-
-pub returns-in-Ok-clause-once : goal.returns-in-Ok-clause-once
-returns-in-Ok-clause-once g c = asks_when _ _ _ _ (λ _. tt) c.in-Ok.ensures.read.once
+pub returns : goal.returns
+returns g c =
+    let prepared = c.in-Err.ensures in
+    attempt_refused c.args.words.now _ _ _ _ _ c.in-Err.refusal prepared.read prepared.usage prepared.refused prepared.unread
+    prepared.reads prepared.wanting

@@ -1,11 +1,11 @@
 ghost use Rattle.std.specs.Prelude.{◌≡◌};
-ghost use Rattle.wt_listing.specs.declared.fault.ListingFault.TheVariants.{NoMemory};
+ghost use Rattle.wt_outside.specs.declared.fault.WriteFault.TheVariants.{NoMemory};
 
 use thiserror::Error;
 
 /// Why a text wasn't written whole.
 #[derive(Clone, Copy, Debug, PartialEq, Eq, Error)]
-pub enum ListingFault {
+pub enum WriteFault {
     /// The sink failed.
     #[error("the sink failed")]
     Failed,
@@ -14,10 +14,10 @@ pub enum ListingFault {
     NoMemory,
 }
 
-impl From<wt_params::NoMemory> for ListingFault {
+impl From<wt_params::NoMemory> for WriteFault {
     ghost from_gives = { λ _ fault. fault ≡ NoMemory };
 
-    fn from(_error: wt_params::NoMemory) -> ListingFault {
-        ListingFault::NoMemory
+    fn from(_error: wt_params::NoMemory) -> WriteFault {
+        WriteFault::NoMemory
     }
 }
