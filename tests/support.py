@@ -27,8 +27,9 @@ def simulate(*words, folder=EXAMPLES):
 
 def tool(name, *words, given=None, folder=None):
     """A call of a tool: its status, output and error output."""
-    return subprocess.run([sys.executable, os.path.join(TOOLS, name), *map(str, words)], input=given,
-                          capture_output=True, text=True, timeout=300, check=False, cwd=folder)
+    command = [sys.executable, os.path.join(TOOLS, name), *map(str, words)]
+    return subprocess.run(command, input=given, capture_output=True, text=True, timeout=300,
+                          check=False, cwd=folder)
 
 
 def read(path):

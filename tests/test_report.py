@@ -28,7 +28,8 @@ class ReportTest(ToolTest):
     def test_of_a_node_that_was_stopped(self):
         text = self.told(given=ILLEGAL)
         self.assertTrue(text.startswith("The run finished: every node ended, but 1 of 1 badly."))
-        self.assertIn("node 0 met a word that is no instruction 0x00000000 at pc 0x00000014\n", text)
+        self.assertIn("node 0 met a word that is no instruction 0x00000000 at pc 0x00000014\n",
+                      text)
         self.assertIn("node 0 printed 3 bytes:\nA\\xff\n", text)
 
     def test_of_a_report_without_events(self):

@@ -46,7 +46,8 @@ def sentence(report):
     text = OUTCOMES.get(report.outcome, f"The run ended as '{report.outcome}'")
     odd = [node for node in report.nodes if node.state != "exit 0"]
     if report.outcome == "finished" and report.nodes:
-        text += " by its own exit 0" if not odd else f", but {len(odd)} of {len(report.nodes)} badly"
+        badly = f", but {len(odd)} of {len(report.nodes)} badly"
+        text += badly if odd else " by its own exit 0"
     return f"{text}. {report.count} events, {report.time} cycles, {report.quanta} quanta."
 
 
@@ -151,7 +152,9 @@ def print_csv(report, rows, images):
                      *(name for name in COUNTERS if name not in COLUMNS)])
     for row, node in zip(rows, [*report.nodes, None]):
         counts = node.counts if node else report.total
-        end = [node.state, f"0x{node.pc:08x}", images.place(node.number, node.pc)] if node else [""] * 3
+        end = [""] * 3
+        if node:
+            end = [node.state, f"0x{node.pc:08x}", images.place(node.number, node.pc)]
         writer.writerow([*(row[column] for column in COLUMNS), *end,
                          *(counts[name] for name in COUNTERS if name not in COLUMNS)])
 

@@ -132,7 +132,7 @@ class Elf:
                 for number in range(count)]
 
     def symbols(self, kinds):
-        """(address, size, name) of the named symbols of these kinds: 0 none, 1 object, 2 function."""
+        """(address, size, name) of the named symbols of these kinds: 1 object, 2 function."""
         sections, found = self.sections(), []
         for _, kind, _, _, offset, size, link in sections:
             if kind != 2 or link >= len(sections):

@@ -252,7 +252,8 @@ class Copies:
         readers = sorted(self.readers.get(block, set()) - {but})
         if not readers:
             return "nobody"
-        return ("node " if len(readers) == 1 else "nodes ") + ", ".join(map(str, readers)) + " to read"
+        nodes = ", ".join(map(str, readers))
+        return f"node{'s' * (len(readers) > 1)} {nodes} to read"
 
 
 class Waits:
