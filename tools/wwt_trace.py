@@ -37,7 +37,9 @@ class Event:
     def __init__(self, time, node):
         self.time, self.node = time, node
         self.pc = self.word = self.source = self.sequence = self.body = self.block = None
-        self.deed, self.trap, self.sends = None, 0, ()
+        self.deed = None
+        self.trap = 0
+        self.sends = ()
 
     def asks(self):
         """The request that a step sends before its processor waits, or None."""
@@ -150,7 +152,13 @@ class Report:
             try:
                 if words[0] == "event":
                     self.seen += 1
-                    yield read_event(words)
+                    if len(words) == 6 and words[3] == "step":
+                        # most lines are so, and are read without further calls
+                        event = Event(int(words[1]), int(words[2]))
+                        event.pc, event.word = int(words[4], 16), int(words[5], 16)
+                        yield event
+                    else:
+                        yield read_event(words)
                 else:
                     self.take_line(words, line.rstrip("\n"))
             except (ValueError, IndexError):
