@@ -23,7 +23,7 @@ import sys
 
 from wwt_code import is_annotation, text_of
 from wwt_tool import add_input, call, parser_of
-from wwt_trace import Waits, open_report
+from wwt_trace import Waits, deed_text, open_report
 
 PROCESSOR, MESSAGES, TRAPS = 1, 2, 3
 TRACKS = ((PROCESSOR, "processor"), (MESSAGES, "messages"), (TRAPS, "traps"))
@@ -61,16 +61,6 @@ def arrow_end(kind, node, track, time, source, sequence):
     binding = ',"bp":"e"' if kind == "f" else ""
     return (f'{{"ph":"{kind}","pid":{node},"tid":{track},"name":"message","cat":"message",'
             f'"ts":{time},"id":"{source}.{sequence}"{binding}}}')
-
-
-def deed_text(deed):
-    if deed is None:
-        return ""
-    if deed[0] == "load":
-        return f"load 0x{deed[1]:08x} 0x{deed[2]:08x}"
-    if deed[0] == "store":
-        return f"store 0x{deed[1]:08x} {deed[2]} 0x{deed[3]:08x}"
-    return f"stop {deed[1]}"
 
 
 @functools.lru_cache(maxsize=None)

@@ -29,16 +29,17 @@ class Send:
 
 class Event:
     """An event line. A step has a pc, and a word where it has one; a message has a source, a
-    sequence, a body and a block. `deed` is None, ('load', address, value), ('store', address,
-    width, value) or ('stop', cause); `trap` is the cycles of a directory trap, or 0."""
-    __slots__ = ("time", "node", "pc", "word", "source", "sequence", "body", "block", "deed",
-                 "trap", "sends")
+    sequence, a body, a block and as many bytes as `size` says. `deed` is None, ('load', address,
+    value), ('store', address, width, value) or ('stop', cause); `trap` is the cycles of a directory
+    trap, or 0."""
+    __slots__ = ("time", "node", "pc", "word", "source", "sequence", "body", "block", "size",
+                 "deed", "trap", "sends")
 
     def __init__(self, time, node):
         self.time, self.node = time, node
         self.pc = self.word = self.source = self.sequence = self.body = self.block = None
         self.deed = None
-        self.trap = 0
+        self.size = self.trap = 0
         self.sends = ()
 
     def asks(self):
@@ -56,14 +57,15 @@ class Event:
 
 
 def take_body(words, at):
-    """The kind of a message and its block, and where the words after them begin."""
+    """The kind of a message, its block, how many bytes it has, and where the words after it
+    begin."""
     body = words[at]
     if body in EVENT_WITHOUT_BLOCK:
-        return body, None, at + 1
+        return body, None, 0, at + 1
     block, at = int(words[at + 1], 16), at + 2
     if at < len(words) and len(words[at]) >= 32:
-        at += 1  # its bytes
-    return body, block, at
+        return body, block, len(words[at]) // 2, at + 1
+    return body, block, 0, at
 
 
 def take_deed(words, at):
@@ -87,7 +89,7 @@ def take_sends(words, at):
     while at < len(words):
         if words[at] != ">":
             raise ValueError
-        body, block, after = take_body(words, at + 2)
+        body, block, _, after = take_body(words, at + 2)
         if words[after] != "at" or words[after + 2][0] != "#":
             raise ValueError
         sends.append(Send(int(words[at + 1]), body, block, int(words[after + 1]),
@@ -105,7 +107,7 @@ def read_event(words):
             event.word, at = int(words[5], 16), 6
     elif words[3] == "from":
         event.source, event.sequence = int(words[4]), int(words[5][1:])
-        event.body, event.block, at = take_body(words, 6)
+        event.body, event.block, event.size, at = take_body(words, 6)
     else:
         raise ValueError
     if at < len(words):
@@ -115,6 +117,15 @@ def read_event(words):
         if at < len(words):
             event.sends = take_sends(words, at)
     return event
+
+
+def deed_text(deed):
+    """What a processor did, as its line says it."""
+    if deed[0] == "load":
+        return f"load 0x{deed[1]:08x} 0x{deed[2]:08x}"
+    if deed[0] == "store":
+        return f"store 0x{deed[1]:08x} {deed[2]} 0x{deed[3]:08x}"
+    return f"stop {deed[1]}"
 
 
 class Node:
