@@ -8,6 +8,8 @@ import sys
 import time
 
 STATUS_OF_WRONG_INPUT = 2
+BUILT = os.path.join(os.path.dirname(os.path.dirname(os.path.abspath(__file__))),
+                     "crates/wwt/out/wwt")
 BATCH = 1 << 20  # characters that are read at once
 PATIENCE = 2  # seconds before the first progress line
 
@@ -25,6 +27,17 @@ def parser_of(text, **options):
 def add_input(parser, what="a report with event lines, as `wwt run --trace` writes it"):
     parser.add_argument("input", nargs="?", default="-", metavar="REPORT",
                         help=f"{what}; standard input if it isn't given, or is -")
+
+
+def add_program(parser):
+    parser.add_argument("--wwt", metavar="WWT", default=os.environ.get("WWT") or BUILT,
+                        help="the built program (crates/wwt/out/wwt, or $WWT)")
+
+
+def program_of(path):
+    if not os.path.isfile(path) or not os.access(path, os.X_OK):
+        raise ToolError(f"there is no built program {path}")
+    return os.path.abspath(path)
 
 
 def open_text(path):
