@@ -79,6 +79,56 @@ class ElfFault(Exception):
     """Why bytes are no executable, by the words of docs/formats.md, ELF32."""
 
 
+ELF_FAULTS = {
+    "short": "is too short for an executable",
+    "magic": "is no ELF file (flat bytes need \"format\": \"flat\")",
+    "class": "is an ELF file of 64 bits, not of 32 (build with -march=rv32i -mabi=ilp32)",
+    "order": "is big-endian",
+    "type": "is no executable of fixed addresses: an object file, or linked with -pie",
+    "machine": "is for another processor than RISC-V",
+    "entries": "has program headers of another size than 32",
+    "table": "is cut off: its program headers reach past its end",
+    "dynamic": "wants a dynamic linker (link with -nostdlib -static)",
+    "segment": "is cut off: a segment reaches past its end",
+    "size": "has a segment with more bytes than its size",
+    "noload": "has nothing to load",
+}
+EXTENSIONS = {0x2F: "atomic", 0x07: "floating point", 0x27: "floating point",
+              0x43: "floating point", 0x47: "floating point", 0x4B: "floating point",
+              0x4F: "floating point", 0x53: "floating point", 0x73: "control register"}
+
+
+def foreign_kind(word):
+    """The kind of a word that is no instruction of the nodes, None where it is one."""
+    if word & 3 != 3:
+        return "compressed"
+    if text_of(word) != "illegal":
+        return None
+    if word & 127 == 0x33 and word >> 25 == 1:
+        return "multiply"
+    return EXTENSIONS.get(word & 127, "unknown")
+
+
+def sections_of_code(elf):
+    """(address, bytes) of the sections that hold instructions."""
+    return [(at, elf.content[offset:offset + size])
+            for _, kind, flags, at, offset, size, _ in elf.sections() if kind == 1 and flags & 4]
+
+
+def foreign_words(elf):
+    """The (address, word) of each kind of instructions that the nodes haven't."""
+    found = {}
+    for at, content in sections_of_code(elf):
+        place = 0
+        while place + 2 <= len(content):
+            word = int.from_bytes(content[place:place + 4], "little")
+            kind = foreign_kind(word)
+            if kind:
+                found.setdefault(kind, []).append((at + place, word))
+            place += 2 if word & 3 != 3 else 4
+    return found
+
+
 class Segment:
     def __init__(self, at, size, content, flags):
         self.at, self.size, self.content, self.flags = at, size, content, flags
@@ -130,6 +180,19 @@ class Elf:
             return []
         return [struct.unpack_from("<7I", self.content, at + size * number)
                 for number in range(count)]
+
+    def section_at(self, name):
+        """The address of the section of this name, or None."""
+        table = struct.unpack_from("<H", self.content, 50)[0]
+        sections = self.sections()
+        if table >= len(sections):
+            return None
+        names = sections[table][4]
+        for offset, _, _, at, _, _, _ in sections:
+            begin = names + offset
+            if self.content[begin:begin + len(name) + 1] == name.encode() + b"\0":
+                return at
+        return None
 
     def symbols(self, kinds):
         """(address, size, name) of the named symbols of these kinds: 1 object, 2 function."""
