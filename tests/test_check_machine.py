@@ -9,6 +9,8 @@ import unittest
 
 from support import EXAMPLES, ToolTest, program, simulate, tool, write
 
+import check_machine
+
 GOOD = {"version": 1, "nodes": 4, "images": [{"hex": "73000000"}]}
 # what is changed, and a part of the sentence; None takes a member away
 BAD = [
@@ -77,11 +79,10 @@ class CheckMachineTest(ToolTest):
         if elf is not None:
             with open(os.path.join(self.room, "a.elf"), "wb") as file:
                 file.write(elf)
-            changes = {"images": [{"file": "a.elf"}], **(changes or {})}
+            path = os.path.join(self.room, "a.elf")
+            changes = {"images": [{"file": path}], **(changes or {})}
         self.describe(changes)
-        ran = self.check()
-        self.assertIn(part, ran.stdout)
-        self.assertEqual((ran.returncode, ran.stderr), (1, ""))
+        self.assertIn(part, "\n".join(check_machine.faults_of(self.machine)))
 
     def patched(self, offset, form, value):
         return self.elf[:offset] + struct.pack(form, value) \
@@ -103,6 +104,12 @@ class CheckMachineTest(ToolTest):
                         {"costs": {"fill": 0}}, {"images": [{"hex": "00", "at": 1048572}]}):
             self.describe(changes)
             self.assertEqual(self.check().stdout, "machine.json: nothing is wrong\n")
+
+    def test_status(self):
+        self.describe({"nodes": 33})
+        ran = self.check()
+        self.assertEqual((ran.stdout, ran.stderr, ran.returncode),
+                         ("machine.json: nodes is 33; it has to be from 1 to 32\n", "", 1))
 
     def test_bad_ones(self):
         for changes, part in BAD:
@@ -130,8 +137,8 @@ class CheckMachineTest(ToolTest):
 
     def test_layout(self):
         header = struct.unpack_from("<I", self.elf, 28)[0]
-        moved = self.patched(header + 8, "<I", 0x10000)
-        self.found("isn't laid out by examples/machine.ld: it begins at 0x000", moved)
+        moved = self.patched(header + 32 + 8, "<I", 0x10000)
+        self.found("isn't laid out by examples/machine.ld: it begins at 0x00010000", moved)
 
     def test_of_the_program(self):
         """The program refuses and accepts as the tool does, and has the same defaults."""

@@ -244,15 +244,22 @@ def image_faults(number, entry, description):
     return faults + layout_faults(name, elf) + code_faults(name, elf, path)
 
 
-def main():
-    parser = parser_of(__doc__)
-    parser.add_argument("machine", metavar="MACHINE", help="the description")
-    words = parser.parse_args()
-    description = read_description(words.machine)
+def faults_of(path):
+    """All that is wrong with the description of this name. Images are looked at where the
+    description itself is right."""
+    description = read_description(path)
     faults = description_faults(description)
     if not faults:
         for number, entry in enumerate(description["images"]):
             faults += image_faults(number, entry, description)
+    return faults
+
+
+def main():
+    parser = parser_of(__doc__)
+    parser.add_argument("machine", metavar="MACHINE", help="the description")
+    words = parser.parse_args()
+    faults = faults_of(words.machine)
     for fault in faults:
         print(f"{os.path.basename(words.machine)}: {fault}")
     if not faults:

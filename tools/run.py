@@ -14,11 +14,11 @@ import subprocess
 import sys
 import time
 
+from check_machine import read_description
 from wwt_code import Images
 from wwt_machine import value_of
 from wwt_tool import ToolError, add_program, call, parser_of, program_of
 from wwt_trace import Report
-from check_machine import read_description
 
 FIRST, GROWTH = 10000, 1.5
 QUICK = 0.3  # seconds: a run that takes less is followed by a much longer one
@@ -55,8 +55,8 @@ def tell(known, budget, passed, images):
         return f"{passed:.0f} s: the first run, up to cycle {budget}, hasn't ended"
     report = known.report
     rate = report.count / known.took if known.took else 0
-    lines = [f"{passed:.0f} s: cycle {report.time}, {report.count} events, {rate / 1e6:.2f} million "
-             f"a second; now up to cycle {budget}"]
+    lines = [f"{passed:.0f} s: cycle {report.time}, {report.count} events, {rate / 1e6:.2f} "
+             f"million a second; now up to cycle {budget}"]
     if known.since < known.budget:
         lines[0] += (f"; since cycle {known.since} no node ended, put a byte out or came out of a "
                      "barrier")

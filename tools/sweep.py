@@ -127,7 +127,8 @@ class Log:
                 self.done[key] = result
         except (ValueError, TypeError, KeyError):
             if line.endswith("\n"):
-                raise ToolError(f"{self.path} is no log of a sweep: '{line.strip()[:40]}'") from None
+                raise ToolError(f"{self.path} is no log of a sweep: '{line[:40].strip()}'") \
+                    from None
             # else the sweep was stopped within this line
 
     def add(self, key, result):
