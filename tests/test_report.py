@@ -2,9 +2,11 @@
 import csv
 import json
 import os
+import subprocess
+import sys
 import unittest
 
-from support import EXAMPLES, MEET, ToolTest, read, simulate
+from support import EXAMPLES, MEET, TOOLS, ToolTest, read, simulate
 
 ILLEGAL = """outcome finished
 events 6
@@ -49,6 +51,23 @@ class ReportTest(ToolTest):
         told = json.loads(self.told("--json", given=ILLEGAL))
         self.assertEqual((told["outcome"], told["time"], told["total"]["hits"]), ("finished", 5, 3))
         self.assertEqual(told["nodes"][0]["output"], "41ff0a")
+
+    def test_of_a_summary(self):
+        lines = [line for line in ILLEGAL.splitlines(True) if line.split()[0] not in
+                 ("node", "count", "out")]
+        told = self.told(given="".join(lines))
+        self.assertTrue(told.startswith("The run finished: every node ended. 6 events, 5 cycles"))
+
+    def test_input_that_could_harm_a_terminal(self):
+        self.refused("is no line of a report: '?[2J'", given="\x1b[2J\n")
+
+    def test_a_full_disk(self):
+        with open("/dev/full", "w", encoding="ascii") as full:
+            command = [sys.executable, os.path.join(TOOLS, self.name), MEET]
+            ran = subprocess.run(command, stdout=full, stderr=subprocess.PIPE, text=True,
+                                 check=False)
+        self.assertEqual(ran.stderr, "report.py: cannot write: No space left on device\n")
+        self.assertEqual(ran.returncode, 2)
 
     def test_of_a_cut_report(self):
         head = "".join(ILLEGAL.splitlines(True)[:-1])

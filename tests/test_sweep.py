@@ -59,6 +59,16 @@ class SweepTest(ToolTest):
         self.refused("no whole blocks of 64", "--images", "a.bin", "--wwt", self.wwt, "--set",
                      "block_bytes=64", "--shared-bytes", 100, folder=self.room)
 
+    def test_a_base(self):
+        base = os.path.join(self.room, "base.json")
+        write(base, '{"version": 1, "latency": 7, "costs": {"op": 3}, "images": []}')
+        rows = self.rows(self.sweep("--base", base, "--set", "costs.mem=2,4"))
+        self.assertEqual([[row[name] for name in ("latency", "costs.op", "costs.mem", "nodes")]
+                          for row in rows], [["7", "3", "2", "1"], ["7", "3", "4", "1"]])
+        write(base, '{"version": 1, "blocks": "many"}')
+        self.refused("base.json: blocks has to be a whole number", "--base", base, "--images",
+                     os.path.join(self.room, "a.bin"), "--wwt", self.wwt)
+
     def test_product_and_speedup(self):
         ran = self.sweep("--set", "nodes=1,2", "--set", "latency=10,100")
         self.assertEqual((ran.returncode, ran.stderr), (0, ""))

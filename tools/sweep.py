@@ -20,9 +20,11 @@ import json
 import os
 import sys
 
+from check_machine import field_faults
 from wwt_machine import NAMES, value_of, with_value
 from wwt_plot import plot
-from wwt_tool import Progress, ToolError, add_program, call, parser_of, program_of, warn
+from wwt_tool import (ToolError, add_program, call, open_output, parser_of, program_of, shown,
+                      warn)
 from wwt_trace import COUNTERS, HEAD, Report
 
 RESULTS = ("status", *HEAD, *COUNTERS, "wall", "hash", "output", "speedup", "error")
@@ -211,16 +213,15 @@ def run_all(runs, words, log):
         return
     place = Cluster(words.dask, words.wwt, words.timeout) if words.dask else \
         Here(words.jobs, words.wwt, words.timeout)
-    progress = Progress()
+    begun = len(log.done)
     try:
-        futures = {place.submit(run): run for run in missing.values()}
-        for number, future in enumerate(place.completed(list(futures)), 1):
-            run = futures[future]
-            log.add(run.key(), results_of(run, answer_of(future)))
-            progress.show(f"{number} of {len(futures)} runs done")
-            yield run
+        with shown(lambda: f"{len(log.done) - begun} of {len(missing)} runs done"):
+            futures = {place.submit(run): run for run in missing.values()}
+            for future in place.completed(list(futures)):
+                run = futures[future]
+                log.add(run.key(), results_of(run, answer_of(future)))
+                yield run
     finally:
-        progress.end()
         place.end()
 
 
@@ -285,6 +286,10 @@ def read_base(path):
         raise ToolError(f"{path} is no JSON: {error}") from None
     if not isinstance(base, dict):
         raise ToolError(f"{path} is no object")
+    base.setdefault("nodes", 1)
+    faults = field_faults(base)
+    if faults:
+        raise ToolError(f"{path}: {faults[0]}")
     return base
 
 
@@ -404,11 +409,8 @@ def main():
         if not words.plot:
             return
         drawn = plot_of(rows, words)
-    if words.svg:
-        with open(words.svg, "w", encoding="utf-8") as file:
-            file.write(drawn)
-    else:
-        sys.stdout.write(drawn)
+    with open_output(words.svg or "-") as file:
+        file.write(drawn)
 
 
 if __name__ == "__main__":

@@ -2,9 +2,11 @@
 wrong, show on a terminal how far they have come, and end quietly when their reader closes the pipe.
 """
 import argparse
+import contextlib
 import io
 import os
 import sys
+import threading
 import time
 
 STATUS_OF_WRONG_INPUT = 2
@@ -55,7 +57,9 @@ def open_text(path):
 def open_output(path):
     """A text file to write, standard output for -."""
     try:
-        return sys.stdout if path == "-" else open(path, "w", encoding="utf-8")
+        if path == "-":
+            return contextlib.nullcontext(sys.stdout)
+        return open(path, "w", encoding="utf-8")
     except OSError as error:
         raise ToolError(f"cannot write {path}: {error.strerror}") from None
 
@@ -85,6 +89,32 @@ class Progress:
             self.shown = 0
 
 
+@contextlib.contextmanager
+def shown(text_of):
+    """Shows what a function tells, again and again, while something else goes on."""
+    progress, over = Progress(), threading.Event()
+
+    def tell():
+        while not over.wait(0.5):
+            progress.show(text_of())
+
+    teller = threading.Thread(target=tell, daemon=True)
+    if progress.on:
+        teller.start()
+    try:
+        yield
+    finally:
+        over.set()
+        if progress.on:
+            teller.join()
+        progress.end()
+
+
+def printable(text):
+    """What can't harm a terminal: other characters stand as ?."""
+    return "".join(one if one.isprintable() else "?" for one in text)
+
+
 def lines_of(path):
     """The lines of a text file, read in batches, with a progress line on a terminal."""
     progress, count = Progress(), 0
@@ -101,12 +131,15 @@ def lines_of(path):
 
 
 def warn(text):
-    print(f"{os.path.basename(sys.argv[0])}: {text}", file=sys.stderr)
+    print(f"{os.path.basename(sys.argv[0])}: {printable(str(text))}", file=sys.stderr)
 
 
 def call(main):
     """Calls a tool's main, and ends the process by its status. A pipe that its reader closed ends
-    it without a word; wrong input ends it with one line."""
+    it without a word; wrong input ends it with one line, and so does a full disk."""
+    if sys.stdout is None:
+        sys.stdout = open(os.devnull, "w", encoding="utf-8")
+    sys.stdout.reconfigure(errors="backslashreplace")
     try:
         status = main() or 0
         sys.stdout.flush()
@@ -117,6 +150,10 @@ def call(main):
         # what is still buffered goes nowhere, so that the end of the process can't complain
         os.dup2(os.open(os.devnull, os.O_WRONLY), sys.stdout.fileno())
         status = 0
+    except OSError as error:
+        warn(f"cannot write: {error.strerror}")
+        os.dup2(os.open(os.devnull, os.O_WRONLY), sys.stdout.fileno())
+        status = STATUS_OF_WRONG_INPUT
     except KeyboardInterrupt:
         status = 130
     sys.exit(status)
