@@ -105,8 +105,8 @@ class Page:
             self.left_out += 1
             return
         self.steps += 1
-        text = "fetch" if event.word is None else text_of(event.word)
-        self.add(event, event.pc, text, asked.block if asked else self.block_of(event.deed), [])
+        block = asked.block if asked else self.block_of(event.deed)
+        self.add(event, event.pc, text_of(event.word), block, [])
 
     def handle_message(self, event):
         sent = self.sent.pop((event.source, event.sequence), -1)

@@ -66,9 +66,8 @@ def arrow_end(kind, node, track, time, source, sequence):
 @functools.lru_cache(maxsize=None)
 def step_texts(pc, word):
     """What a step's piece says of its place: the name, and the first of its arguments."""
-    if word is None:
-        return "fetch", f'"pc":"0x{pc:08x}",'
-    return text_of(word), f'"pc":"0x{pc:08x}","word":"0x{word:08x}",'
+    told = "" if word is None else f'"word":"0x{word:08x}",'
+    return text_of(word), f'"pc":"0x{pc:08x}",{told}'
 
 
 class Processor:

@@ -38,7 +38,10 @@ def offset_of_jump(word):
 
 @functools.lru_cache(maxsize=None)
 def text_of(word):
-    """The instruction of a word as text, 'illegal' where it has none."""
+    """The instruction of a word as text, 'illegal' where it has none, 'fetch' where there is no
+    word."""
+    if word is None:
+        return "fetch"
     opcode, funct3, funct7 = word & 127, word >> 12 & 7, word >> 25
     rd, rs1, rs2 = f"x{word >> 7 & 31}", f"x{word >> 15 & 31}", f"x{word >> 20 & 31}"
     number = signed(word >> 20, 12)
@@ -72,7 +75,7 @@ def is_annotation(word):
 
 def width_of(word):
     """How many bytes a load or store of this word reads or writes."""
-    return 1 << (word >> 12 & 3)
+    return 1 << (word >> 12 & 3) if word is not None else 4
 
 
 class ElfFault(Exception):

@@ -61,15 +61,16 @@ class Races:
 
     def handle(self, event):
         deed, node = event.deed, event.node
+        accesses = deed is not None and deed[0] != "stop"
         if event.pc is not None:
             if event.sends:
                 self.waiting[node] = event.pc, event.word
                 if event.sends[0].body in ("Arrive", "Leave"):
                     self.release(node, self.barrier)
-            if deed and deed[0] != "stop" and deed[1] >= SHARED:
+            if accesses and deed[1] >= SHARED:
                 self.access(event, event.pc, event.word)
         elif event.body in GRANTS:
-            if deed:
+            if accesses and node in self.waiting:
                 self.access(event, *self.waiting[node])
         elif event.body == "Go":
             self.learn(self.clock(node), self.opened)

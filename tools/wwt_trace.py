@@ -211,10 +211,15 @@ class Report:
         """Reads all lines, and says what is missing."""
         for _ in self.events():
             pass
-        if self.outcome is None:
-            raise ToolError(f"{self.name} is no report: it has no line 'outcome'")
+        for name in ("outcome", "count", "time", "quanta"):
+            if getattr(self, name) is None:
+                line = "events" if name == "count" else name
+                raise ToolError(f"{self.name} is no report: it has no line '{line}'")
         if self.total is None:
             raise ToolError(f"{self.name} ends before its line 'total'")
+        for node in self.nodes:
+            if not node.counts:
+                raise ToolError(f"{self.name} has no line 'count {node.number}'")
         return self
 
     def warn_of_end(self):
