@@ -110,6 +110,24 @@ class PageTest(ToolTest):
         self.assertIn("cycle 366, node 0: Inv from node 0, sent by the event of cycle 101", drawn)
         self.assertIn("block 0x80000000", drawn)
 
+    def test_click_and_keys(self):
+        deeds = """<script>
+            const point = { offsetX: x(941), offsetY: lane(2) + 8 };
+            canvas.onmousedown(point);
+            canvas.onmouseup(point);
+            const clicked = at("told").textContent;
+            document.onkeydown({ key: "n", target: document.body });
+            const next = at("told").textContent;
+            document.onkeydown({ key: "+", target: document.body });
+            document.body.dataset.did = [clicked, next, view.to - view.from < 1739].join("|");
+            </script></body>"""
+        drawn = self.browse(self.page_of(MEET).replace("</body>", deeds))
+        did = re.search(r'data-did="(.*?)"', drawn, re.S)[1]
+        clicked, following, zoomed = did.split("|")
+        self.assertTrue(clicked.startswith("cycle 941, node 2: DataX from node 0"), clicked)
+        self.assertTrue(following.startswith("cycle 1057, node 0: lw x6, 0(x5) at pc 0x00000010"))
+        self.assertEqual(zoomed, "true")
+
     def test_a_picture(self):
         with tempfile.TemporaryDirectory() as room:
             self.browse(self.page_of(MEET), shot=f"{room}/page.png")

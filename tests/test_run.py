@@ -69,7 +69,7 @@ class RunTest(ToolTest):
         self.stand_in(10 ** 9, 0.6e-6)
         begun = time.monotonic()
         status, output, told = self.ended("--timeout", 3, "--every", 0.7)
-        self.assertLess(time.monotonic() - begun, 6)
+        self.assertLess(time.monotonic() - begun, 30)
         self.assertEqual(status, 3)
         self.assertIn("outcome budget\nevents 7\ntime ", output)
         self.assertIn("node 0 waiting 0x80000020 at 0x00000010", told)
@@ -79,7 +79,8 @@ class RunTest(ToolTest):
     def test_stopped_by_hand(self):
         self.stand_in(10 ** 9, 0.6e-6)
         with self.start("--every", 0.7) as ran:
-            time.sleep(2.5)
+            while "events, " not in ran.stderr.readline():
+                pass  # no run has ended so far
             ran.send_signal(signal.SIGINT)
             output, told = ran.communicate(timeout=20)
         self.assertEqual(ran.returncode, 3)

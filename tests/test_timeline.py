@@ -1,6 +1,7 @@
 """Tests of tools/timeline.py."""
 import json
 import os
+import re
 import subprocess
 import sys
 import tempfile
@@ -9,6 +10,13 @@ import unittest
 from support import EXAMPLES, MEET, TOOLS, ToolTest, read, simulate, tool
 
 MESSAGES = 27  # that meet.txt has
+# makes a timeline, and tells how much memory that took at most
+PEAK = """
+import sys, timeline
+timeline.main()
+with open("/proc/self/status") as status:
+    print(*(line for line in status if line.startswith("VmHWM")), file=sys.stderr)
+"""
 
 
 def overlaps(slices):
@@ -111,12 +119,12 @@ class TimelineTest(ToolTest):
         with tempfile.NamedTemporaryFile("w+") as trace:
             trace.write(big_trace(200000))
             trace.flush()
-            # at most so many kilobytes of address space
-            limited = ["sh", "-c", 'ulimit -v 100000 && exec "$@"', "sh", sys.executable]
-            ran = subprocess.run([*limited, os.path.join(TOOLS, self.name), trace.name],
-                                 stdout=subprocess.DEVNULL, stderr=subprocess.PIPE, text=True,
-                                 check=False)
-        self.assertEqual(ran.returncode, 0, ran.stderr[-500:])
+            ran = subprocess.run([sys.executable, "-c", PEAK, trace.name], text=True,
+                                 stdout=subprocess.DEVNULL, stderr=subprocess.PIPE, check=False,
+                                 env={**os.environ, "PYTHONPATH": TOOLS})
+        kilobytes = re.search(r"VmHWM:\s+(\d+) kB", ran.stderr)
+        self.assertTrue(kilobytes, ran.stderr)
+        self.assertLess(int(kilobytes[1]), 60000)
 
     def test_of_a_run(self):
         trace = simulate("run", "--trace", "stencil.json")
