@@ -52,6 +52,11 @@ class MissesTest(ToolTest):
         self.assertIn("wait 2 of node 1: 485 cycles for a read", self.told("--life", 1,
                                                                             given=MEET_TEXT))
 
+    def test_words_of_a_life(self):
+        self.assertEqual(self.told("--life", 2, 1, MEET), self.told(MEET, "--life", 2))
+        self.refused("--life takes NODE and K, two numbers, and not 'x'", "--life", "x", MEET)
+        self.refused("and not '1 2 3'", "--life", 1, 2, 3, MEET)
+
     def test_life_of_a_wait_that_is_not_there(self):
         self.refused("node 2 waited for a block 1 times", "--life", 2, 7, given=MEET_TEXT)
 

@@ -183,16 +183,24 @@ def words_of():
     parser.add_argument("--top", type=int, default=20, metavar="N",
                         help="rows of each table, 0 for all of them (20)")
     what = parser.add_mutually_exclusive_group()
-    what.add_argument("--life", nargs="+", type=int, metavar=("NODE", "K"),
+    what.add_argument("--life", nargs="+", metavar=("NODE", "K"),
                       help="tells the K-th wait of a node hop by hop, the longest without K")
     what.add_argument("--races", action="store_true",
                       help="accesses of different nodes to the same bytes, one of them a store, "
                            "that no barrier and no flag orders")
     words = parser.parse_args()
-    if words.life and len(words.life) > 2:
-        # the word after K is the input, where no option stands between
-        parser.error("--life takes NODE and K; put REPORT before it")
+    if words.life:
+        read_life(words)
     return words
+
+
+def read_life(words):
+    """NODE and K as numbers. A last word that is none is the input, which may stand there too."""
+    if words.input == "-" and len(words.life) > 1 and not words.life[-1].isdigit():
+        words.input = words.life.pop()
+    if len(words.life) > 2 or not all(word.isdigit() for word in words.life):
+        raise ToolError(f"--life takes NODE and K, two numbers, and not '{' '.join(words.life)}'")
+    words.life = list(map(int, words.life))
 
 
 def main():
