@@ -105,6 +105,10 @@ class CheckMachineTest(ToolTest):
             self.describe(changes)
             self.assertEqual(self.check().stdout, "machine.json: nothing is wrong\n")
 
+    def test_standard_input(self):
+        self.assertEqual(self.told(given=json.dumps(GOOD)), "standard input: nothing is wrong\n")
+        self.refused("standard input, line 1, column 2", given="{")
+
     def test_status(self):
         self.describe({"nodes": 33})
         ran = self.check()

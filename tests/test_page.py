@@ -61,7 +61,8 @@ class PageTest(ToolTest):
         with tempfile.TemporaryDirectory() as room:
             write(f"{room}/page.html", page)
             command = [browser, "--headless", "--no-sandbox", "--disable-gpu",
-                       "--disable-dev-shm-usage", f"--user-data-dir={room}/user", "--window-size=1400,700",
+                       "--disable-dev-shm-usage", f"--user-data-dir={room}/user",
+                       "--window-size=1400,700",
                        f"--screenshot={shot}" if shot else "--dump-dom",
                        f"file://{room}/page.html{part}"]
             return subprocess.run(command, capture_output=True, text=True, timeout=120,

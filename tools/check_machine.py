@@ -15,7 +15,7 @@ import sys
 
 from wwt_code import (ELF_FAULTS, Elf, ElfFault, Source, foreign_words, sections_of_code)
 from wwt_machine import (BLOCK_BYTES, COSTS, FIELDS, MOST_LINES, PAGE, value_of)
-from wwt_tool import ToolError, call, parser_of
+from wwt_tool import ToolError, call, name_of, parser_of, read_bytes
 from wwt_trace import SHARED
 
 WHOLE = (1 << 64) - 1  # the greatest whole number that is read as one
@@ -34,12 +34,10 @@ def no_constant(text):
 
 def read_description(path):
     """The object of a description. ToolError where it can't be read or isn't one."""
+    content = read_bytes(path)
+    path = name_of(path)
     try:
-        with open(path, "rb") as file:
-            content = file.read()
         return parse(content.decode("utf-8"), path)
-    except OSError as error:
-        raise ToolError(f"cannot read {path}: {error.strerror}") from None
     except UnicodeDecodeError as error:
         line = content.count(b"\n", 0, error.start) + 1
         column = error.start - content.rfind(b"\n", 0, error.start)
@@ -257,13 +255,12 @@ def faults_of(path):
 
 def main():
     parser = parser_of(__doc__)
-    parser.add_argument("machine", metavar="MACHINE", help="the description")
+    parser.add_argument("machine", nargs="?", default="-", metavar="MACHINE",
+                        help="the description; standard input if it isn't given, or is -")
     words = parser.parse_args()
     faults = faults_of(words.machine)
-    for fault in faults:
-        print(f"{os.path.basename(words.machine)}: {fault}")
-    if not faults:
-        print(f"{os.path.basename(words.machine)}: nothing is wrong")
+    for fault in faults or ["nothing is wrong"]:
+        print(f"{name_of(os.path.basename(words.machine))}: {fault}")
     sys.stdout.flush()
     return 1 if faults else 0
 

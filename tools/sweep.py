@@ -20,11 +20,11 @@ import json
 import os
 import sys
 
-from check_machine import field_faults
+from check_machine import field_faults, read_description
 from wwt_machine import NAMES, value_of, with_value
 from wwt_plot import plot
-from wwt_tool import (ToolError, add_program, call, open_output, parser_of, program_of, shown,
-                      warn)
+from wwt_tool import (ToolError, add_program, call, name_of, open_output, parser_of, program_of,
+                      read_bytes, shown, warn)
 from wwt_trace import COUNTERS, HEAD, Report
 
 RESULTS = ("status", *HEAD, *COUNTERS, "wall", "hash", "output", "speedup", "error")
@@ -277,28 +277,12 @@ def read_setting(text):
 def read_base(path):
     if path is None:
         return {"version": 1, "nodes": 1}
-    try:
-        with open(path, encoding="utf-8") as file:
-            base = json.load(file)
-    except OSError as error:
-        raise ToolError(f"cannot read {path}: {error.strerror}") from None
-    except ValueError as error:
-        raise ToolError(f"{path} is no JSON: {error}") from None
-    if not isinstance(base, dict):
-        raise ToolError(f"{path} is no object")
+    base = read_description(path)
     base.setdefault("nodes", 1)
     faults = field_faults(base)
     if faults:
         raise ToolError(f"{path}: {faults[0]}")
     return base
-
-
-def read_file(path):
-    try:
-        with open(path, "rb") as file:
-            return file.read()
-    except OSError as error:
-        raise ToolError(f"cannot read {path}: {error.strerror}") from None
 
 
 def fit_blocks(description, shared_bytes):
@@ -317,10 +301,10 @@ def runs_of(words):
     if shared is None:
         shared = value_of(base, "blocks") * value_of(base, "block_bytes")
     budget = ["--budget", str(words.budget)] if words.budget is not None else []
-    program = hashlib.sha256(read_file(words.wwt)).hexdigest()[:8]
+    program = hashlib.sha256(read_bytes(words.wwt)).hexdigest()[:8]
     runs = []
     for image in words.images:
-        content = read_file(image)
+        content = read_bytes(image)
         for values in itertools.product(*(values for _, values in words.set)):
             description = {key: value for key, value in base.items() if key != "images"}
             for key, value in zip(keys, values):
@@ -383,13 +367,10 @@ def words_of():
 
 
 def read_rows(path):
-    try:
-        with open(path, encoding="utf-8", newline="") as file:
-            rows = list(csv.DictReader(file))
-    except OSError as error:
-        raise ToolError(f"cannot read {path}: {error.strerror}") from None
+    text = read_bytes(path).decode("utf-8", "replace")
+    rows = list(csv.DictReader(text.splitlines()))
     if not rows or "image" not in rows[0]:
-        raise ToolError(f"{path} is no study of this tool")
+        raise ToolError(f"{name_of(path)} is no study of this tool")
     return rows
 
 

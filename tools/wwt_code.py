@@ -9,7 +9,7 @@ import shutil
 import struct
 import subprocess
 
-from wwt_tool import ToolError
+from wwt_tool import ToolError, read_bytes
 
 LOADS = {0: "lb", 1: "lh", 2: "lw", 4: "lbu", 5: "lhu"}
 STORES = {0: "sb", 1: "sh", 2: "sw"}
@@ -215,11 +215,9 @@ class Elf:
 
 def read_elf(path):
     """The executable of a file. ToolError where it can't be read, or is none."""
+    content = read_bytes(path)
     try:
-        with open(path, "rb") as file:
-            return Elf(file.read())
-    except OSError as error:
-        raise ToolError(f"cannot read {path}: {error.strerror}") from None
+        return Elf(content)
     except ElfFault as fault:
         raise ToolError(f"{path} is no executable that wwt reads: {fault}") from None
     except struct.error:

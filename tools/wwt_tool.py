@@ -54,6 +54,24 @@ def open_text(path):
         raise ToolError(f"cannot read {path}: {error.strerror}") from None
 
 
+def name_of(path):
+    """What a file is called in a message."""
+    return "standard input" if path == "-" else path
+
+
+def read_bytes(path):
+    """All bytes of a file, of standard input for -."""
+    try:
+        if path != "-":
+            with open(path, "rb") as file:
+                return file.read()
+        if sys.stdin is None:
+            raise ToolError("standard input is closed")
+        return sys.stdin.buffer.read()
+    except OSError as error:
+        raise ToolError(f"cannot read {name_of(path)}: {error.strerror}") from None
+
+
 def open_output(path):
     """A text file to write, standard output for -."""
     try:

@@ -5,7 +5,7 @@ tools need stands here and nowhere else.
 """
 import re
 
-from wwt_tool import ToolError, lines_of, warn
+from wwt_tool import ToolError, lines_of, name_of, warn
 
 COUNTERS = ("steps", "messages", "done", "hits", "misses", "upgrades", "replaced", "checkins",
             "invs", "traps", "trap_cycles", "barriers", "stray", "sent")
@@ -231,7 +231,7 @@ class Report:
 
 
 def open_report(path):
-    return Report(lines_of(path), "standard input" if path == "-" else path)
+    return Report(lines_of(path), name_of(path))
 
 
 class Wait:
