@@ -10,6 +10,8 @@ import unittest
 from support import EXAMPLES, ToolTest, program, simulate, tool, write
 
 import check_machine
+from wwt_code import Elf, sections_of_code
+from wwt_machine import NAMES, value_of
 
 GOOD = {"version": 1, "nodes": 4, "images": [{"hex": "73000000"}]}
 # what is changed, and a part of the sentence; None takes a member away
@@ -131,7 +133,6 @@ class CheckMachineTest(ToolTest):
         self.found("begins at 0x00000002", self.patched(24, "<I", 2))
 
     def test_instructions(self):
-        from wwt_code import Elf, sections_of_code
         content = sections_of_code(Elf(self.elf))[0][1]
         at = self.elf.index(content) + 16
         for word, part in ((0x02A50533, "multiply"), (0x100526AF, "atomic"),
@@ -154,7 +155,6 @@ class CheckMachineTest(ToolTest):
                                      capture_output=True, check=False)
                 self.assertIn(ran.returncode, (6, 7, 8), part)
         self.describe({})
-        from wwt_machine import NAMES, value_of
         shown = [line.split() for line in simulate("check", self.machine).splitlines()]
         self.assertEqual({name: int(value) for name, value in shown[1:21]},
                          {name: value_of(GOOD, name) for name in NAMES})

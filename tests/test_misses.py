@@ -1,8 +1,9 @@
 """Tests of tools/misses.py."""
 import unittest
 
-from support import MEET, ToolTest, simulate
+from support import MEET, ToolTest, read, simulate, tool
 
+MEET_TEXT = read(MEET)
 # node 0 stores, and node 1 loads the same word, once before and once after a barrier
 RACE = """event 0 0 step 0x00000000 0x00a2a023 > 0 GetX 0x80000000 at 10 #0
 event 10 0 from 0 #0 GetX 0x80000000 > 0 DataX 0x80000000 00000000000000000000000000000000 at 20 #1
@@ -66,7 +67,6 @@ class MissesTest(ToolTest):
         self.assertIn("node 2 still waits for block 0x80000000, since cycle 1", ran)
 
     def told_with_warning(self, given):
-        from support import tool
         ran = tool(self.name, given=given)
         self.assertIn("ends before its line 'total'", ran.stderr)
         return ran.stdout
@@ -90,9 +90,6 @@ class MissesTest(ToolTest):
         self.assertIn("57110 cycles waited in 322 waits", self.told(given=stencil))
         self.assertIn("races: none was seen", self.told("--races", given=stencil))
 
-
-with open(MEET, encoding="ascii") as file:
-    MEET_TEXT = file.read()
 
 if __name__ == "__main__":
     unittest.main()

@@ -1,6 +1,5 @@
 """Tests of tools/page.py, whose page is opened in a real browser where Chromium is installed."""
 import json
-import os
 import re
 import shutil
 import subprocess

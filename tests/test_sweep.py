@@ -10,6 +10,8 @@ from xml.dom import minidom
 
 from support import EXAMPLES, TOOLS, ToolTest, program, read, tool, write
 
+from wwt_trace import COUNTERS
+
 # takes 1000 / nodes + latency cycles, and on 4 nodes puts out another byte; refuses 7 nodes
 STAND_IN = """#!{python}
 import json, sys
@@ -36,7 +38,6 @@ class SweepTest(ToolTest):
         self.addCleanup(shutil.rmtree, self.room)
         self.calls = os.path.join(self.room, "calls")
         self.wwt = os.path.join(self.room, "wwt")
-        from wwt_trace import COUNTERS
         write(self.wwt, STAND_IN.format(python=sys.executable, calls=self.calls,
                                         counters=COUNTERS))
         os.chmod(self.wwt, 0o700)

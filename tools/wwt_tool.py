@@ -21,7 +21,7 @@ class ToolError(Exception):
 
 
 def parser_of(text, **options):
-    """A parser of words whose help begins with the first paragraph of a tool's own text."""
+    """A parser of words whose help begins with a tool's own text."""
     return argparse.ArgumentParser(
         description=text, formatter_class=argparse.RawDescriptionHelpFormatter, **options)
 
