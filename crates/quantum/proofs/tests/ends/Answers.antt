@@ -1,4 +1,4 @@
-use Rattle.std.proofs.Common.{◌≡◌, ◌∙◌, ℕ, Bool, None, [], ◌∷◌, inl, inr, sym, ap, subst, refl, arith}
+use Rattle.std.proofs.Common.{◌≡◌, ◌∙◌, Bool, None, [], ◌∷◌, inl, inr, sym, ap, subst, refl, arith}
 use Rattle.wt_params.specs.declared.parts.MachineParts.{MachineParts}
 use Rattle.wt_proto.specs.declared.message.Msg.{Msg}
 use Rattle.image_loader.specs.Images.{LoadedImages}

@@ -1,11 +1,10 @@
-use Rattle.std.proofs.Common.{◌≡◌, ◌∙◌, sym, ap, refl, arith}
+use Rattle.std.proofs.Common.{◌∙◌, sym, ap, refl, arith}
 use Rattle.std.specs.FinMap.{get, get-empty}
 use Rattle.wt_params.specs.declared.parts.MachineParts.{MachineParts}
 use Rattle.wt_proto.specs.declared.key.Key.{Key}
 use Rattle.wt_proto.specs.declared.message.Msg.{Msg}
 use Rattle.wt_proto.specs.KeyOrder.{key_cmp}
 use Rattle.discrete_events.specs.Core.{Station}
-use Rattle.discrete_events.proofs.Queues.{Queue}
 use Rattle.node.specs.declared.state.NodeState.{NodeState}
 use Rattle.node.specs.Laws.{NodeModel}
 use Rattle.quantum.proofs.tests.hears.Goals as goal
