@@ -69,10 +69,19 @@ fi
 
 # an error line that can't be written changes no status
 if [ -w /dev/full ]; then
-    "$wwt" </dev/null >"$room/out" 2>/dev/full
+    for words in '' 'run' 'run m n' 'run --budget 0 m' 'run --workers 2 m' 'check' 'load' 'load 10000' 'dis' 'flat m' 'fly'; do
+        # (each word for itself)
+        "$wwt" $words </dev/null >"$room/out" 2>/dev/full
+        echo $? >"$room/status"
+        : >"$room/err"
+        expect "a full error output, for '$words'" 2 '' ''
+    done
+    "$wwt" check "$room/no such file" >"$room/out" 2>/dev/full
     echo $? >"$room/status"
-    : >"$room/err"
-    expect 'a full error output' 2 '' ''
+    expect 'a full error output, for a missing file' 8 '' ''
+    "$wwt" check /dev/null >"$room/out" 2>/dev/full
+    echo $? >"$room/status"
+    expect 'a full error output, for an empty description' 6 '' ''
 fi
 
 # input through a pipe, in three pieces with pauses; an exit by the code 0 and one by another
