@@ -1,7 +1,7 @@
 #!/usr/bin/env bash
 # Runs the built program at the edges that no clause reaches, where it meets the host: closed and broken standard input,
-# a full output, input that comes in pieces, input of more than one read, words that aren't text, and no words. Compares
-# status, standard output and standard error of each. Needs nothing but this shell.
+# a full output, input that comes in pieces, input of more than one read, an executable that names its bytes again and again,
+# words that aren't text, and no words. Compares status, standard output and standard error of each. Needs nothing but this shell.
 #
 #     tools/check_edges.sh [WWT]
 #
@@ -69,10 +69,19 @@ fi
 
 # an error line that can't be written changes no status
 if [ -w /dev/full ]; then
-    "$wwt" </dev/null >"$room/out" 2>/dev/full
+    for words in '' 'run' 'run m n' 'run --budget 0 m' 'run --workers 2 m' 'check' 'load' 'load 10000' 'dis' 'flat m' 'fly'; do
+        # (each word for itself)
+        "$wwt" $words </dev/null >"$room/out" 2>/dev/full
+        echo $? >"$room/status"
+        : >"$room/err"
+        expect "a full error output, for '$words'" 2 '' ''
+    done
+    "$wwt" check "$room/no such file" >"$room/out" 2>/dev/full
     echo $? >"$room/status"
-    : >"$room/err"
-    expect 'a full error output' 2 '' ''
+    expect 'a full error output, for a missing file' 8 '' ''
+    "$wwt" check /dev/null >"$room/out" 2>/dev/full
+    echo $? >"$room/status"
+    expect 'a full error output, for an empty description' 6 '' ''
 fi
 
 # input through a pipe, in three pieces with pauses; an exit by the code 0 and one by another
@@ -93,5 +102,25 @@ if ! grep -qx 'out 0 1 41' "$room/out"; then
     echo "edge 'a program past 4096 bytes': it didn't print its letter"
     failed=1
 fi
+
+# an executable of 16 MiB with 65535 headers, each of which names all of its bytes: 1 TiB, which isn't copied
+{
+    printf '\x7fELF\x01\x01\x01\x00\x00\x00\x00\x00\x00\x00\x00\x00\x02\x00\xf3\x00\x01\x00\x00\x00'
+    printf '\x00\x00\x00\x00\x34\x00\x00\x00\x00\x00\x00\x00\x00\x00\x00\x00'
+    printf '\x34\x00\x20\x00\xff\xff\x28\x00\x00\x00\x00\x00'
+} >"$room/file"
+{
+    printf '\x01\x00\x00\x00\x00\x00\x00\x00\x00\x00\x00\x00\x00\x00\x00\x00'
+    printf '\x00\x00\x00\x01\x00\x00\x00\x01\x05\x00\x00\x00\x04\x00\x00\x00'
+} >"$room/headers"
+for ((i = 0; i < 16; i++)); do
+    cat "$room/headers" "$room/headers" >"$room/twice"
+    mv "$room/twice" "$room/headers"
+done
+head -c 2097120 "$room/headers" >>"$room/file"
+head -c 14680044 /dev/zero >>"$room/file"
+timeout 10 "$wwt" dis "$room/file" >"$room/out" 2>"$room/err"
+echo $? >"$room/status"
+expect 'an executable of 1 TiB' 10 '' 'wwt: out of memory'
 
 exit "$failed"

@@ -9,6 +9,9 @@ use crate::image::{Bytes, Image, Segment, Segments};
 use crate::program::{ProgramHeader, word};
 use std::alloc::{AllocError, Global};
 
+/// No more bytes than these are taken for the segments of an image together. No machine has memory for as many.
+const MOST_BYTES: u64 = 67_108_864;
+
 /// Reads an ELF32 executable: little-endian, for RISC-V, linked to fixed addresses. Every fault is tested over the
 /// whole file before the next one, in the order of [`ImageFault`]. The segments are the program headers of type
 /// PT_LOAD, in their order; sections, symbols and all other program headers are passed over.
@@ -77,7 +80,8 @@ fn loads_something(headers: &[ProgramHeader]) -> bool
     headers.iter().any(|header| header.is_loaded())
 }
 
-/// The segments to be loaded, in their order, each with a copy of its bytes of the file.
+/// The segments to be loaded, in their order, each with a copy of its bytes of the file. Many headers may name the same
+/// bytes, so what all copies take is limited, whatever the length of the file.
 fn load_segments(
     alloc: Global,
     headers: &[ProgramHeader],
@@ -89,8 +93,12 @@ fn load_segments(
     ensures sizes { IfOk result (λ segments. All FitsItsSize segments.items) }
 {
     let mut segments = Vec::new(alloc);
+    let mut room = MOST_BYTES;
     for header in headers {
         if header.is_loaded() {
+            room = room
+                .checked_sub(header.file_bytes as u64)
+                .ok_or(AllocError)?;
             segments.push(load_segment(alloc, header, bytes)?)?;
         }
     }

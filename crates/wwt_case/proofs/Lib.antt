@@ -1,3 +1,4 @@
+pub mod PlanLemmas
 pub mod ReadLemmas
 pub mod ProgramLemmas
 pub mod ImageLemmas

@@ -12,8 +12,11 @@ use Rattle.wt_outside.specs.Views.{StoreView}
 use Rattle.wwt_case.specs.declared.refusal.Refusal.{Refusal}
 use Rattle.wwt_case.specs.declared.refusal.Refusal.TheVariants.{Read, NoMemory}
 use Rattle.wwt_case.specs.declared.refusal.FileKind.{FileKind}
+use Rattle.wwt_case.specs.Plan.{Plan, ◌>>=◌, answer_of, file, names_read}
+use Rattle.wwt_case.specs.Plan.Plan.{Give}
+use Rattle.wwt_case.proofs.PlanLemmas.{answer_then, names_after}
 use Rattle.wwt_case.specs.Files.{file_of, bytes_of, and_then, names_then, read_limit}
-use Rattle.wwt_case.specs.Reading.{Answers, Asks, IsThrough, Reads}
+use Rattle.wwt_case.specs.Reading.{Answers, Asks, IsThrough, Reads, ReadsAs}
 
 missing_file : (name : List ℕ) (kind : FileKind) (found : Option (List ℕ)) → IsNone found → bytes_of name kind found ≡ Err (Read name)
 missing_file name kind None none = refl
@@ -34,7 +37,7 @@ module _ {S : Type 0} where
   }
 
   -- a read that failed
-  pub failed_read : (name : List ℕ) (kind : FileKind) (view : StoreView S) (old new : S) → Rose (view.faults old) (view.faults new) ⊎ IsMissing (view.files old) name → view.asked old name read_limit new → view.faults old ≤ view.faults new → view.files new ≡ view.files old → Reads (file_of name kind) (λ _. name ∷ []) view old new (Err (Read name))
+  pub failed_read : (name : List ℕ) (kind : FileKind) (view : StoreView S) (old new : S) → Rose (view.faults old) (view.faults new) ⊎ IsMissing (view.files old) name → view.asked old name read_limit new → view.faults old ≤ view.faults new → view.files new ≡ view.files old → ReadsAs (file_of name kind) (λ _. name ∷ []) view old new (Err (Read name))
   failed_read name kind view old new failed asked later kept = record {
     found = λ files told. tt;
     refused = λ files told stood. elim failed [
@@ -55,8 +58,8 @@ module _ {S A B : Type 0} (wanted : Files → Result A Refusal) (names : Files �
   through_later view s0 s1 s2 (Err refusal) later through = (stood_later (view.faults s0) (view.faults s1) (view.faults s2) through.0 later, through.1)
 
   asks_then : (view : StoreView S) (s0 s1 s2 : S) (value : A) (result : Result B Refusal)
-      → Reads wanted names view s0 s1 (Ok value)
-      → Reads (next value) (next_names value) view s1 s2 result
+      → ReadsAs wanted names view s0 s1 (Ok value)
+      → ReadsAs (next value) (next_names value) view s1 s2 result
       → Asks (λ given. names given ++ names_then (wanted given) (λ a. next_names a given)) view s0 s2 (IsThrough view s0 s2 result)
   asks_then view s0 s1 s2 value result first second =
       let after = λ (given : Files) (e : wanted given ≡ Ok value). ap (λ (r : Result A Refusal). names_then r (λ a. next_names a given)) e in
@@ -76,9 +79,9 @@ module _ {S A B : Type 0} (wanted : Files → Result A Refusal) (names : Files �
 
   -- one read, and then another
   pub reads_then : (view : StoreView S) (s0 s1 s2 : S) (value : A) (result : Result B Refusal)
-      → Reads wanted names view s0 s1 (Ok value)
-      → Reads (next value) (next_names value) view s1 s2 result
-      → Reads (λ given. and_then (wanted given) (λ a. next a given)) (λ given. names given ++ names_then (wanted given) (λ a. next_names a given)) view s0 s2 result
+      → ReadsAs wanted names view s0 s1 (Ok value)
+      → ReadsAs (next value) (next_names value) view s1 s2 result
+      → ReadsAs (λ given. and_then (wanted given) (λ a. next a given)) (λ given. names given ++ names_then (wanted given) (λ a. next_names a given)) view s0 s2 result
   reads_then view s0 s1 s2 value result first second =
       let both = λ (given : Files) (e : wanted given ≡ Ok value). ap (λ (r : Result A Refusal). and_then r (λ a. next a given)) e in
       let after = λ (given : Files) (e : wanted given ≡ Ok value). ap (λ (r : Result A Refusal). names_then r (λ a. next_names a given)) e in
@@ -102,8 +105,8 @@ module _ {S A B : Type 0} (wanted : Files → Result A Refusal) (names : Files �
 
   -- one read that is refused, so that there is no other
   pub reads_stopped : (view : StoreView S) (old new : S) (refusal : Refusal)
-      → Reads wanted names view old new (Err refusal)
-      → Reads (λ given. and_then (wanted given) (λ a. next a given)) (λ given. names given ++ names_then (wanted given) (λ a. next_names a given)) view old new (Err refusal)
+      → ReadsAs wanted names view old new (Err refusal)
+      → ReadsAs (λ given. and_then (wanted given) (λ a. next a given)) (λ given. names given ++ names_then (wanted given) (λ a. next_names a given)) view old new (Err refusal)
   reads_stopped view old new refusal first = record {
     found = λ given told. tt;
     refused = λ given told stood. elim (first.refused given told stood) [
@@ -148,7 +151,7 @@ asks_nothing names view s all none = record {
 }
 
 -- A step that reads nothing answers what it calls for.
-pub reads_nothing : {S A : Type 0} (wanted : Result A Refusal) (result : Result A Refusal) (view : StoreView S) (s : S) → Answers wanted result → ((name : List ℕ) → wanted ≢ Err (Read name)) → Reads (λ _. wanted) (λ _. []) view s s result
+pub reads_nothing : {S A : Type 0} (wanted : Result A Refusal) (result : Result A Refusal) (view : StoreView S) (s : S) → Answers wanted result → ((name : List ℕ) → wanted ≢ Err (Read name)) → ReadsAs (λ _. wanted) (λ _. []) view s s result
 reads_nothing wanted (Ok value) view s answer other = record {
   found = λ given told. answer;
   refused = λ given told stood. tt;
@@ -170,12 +173,13 @@ reads_nothing wanted (Err refusal) view s answer other = record {
   kept = refl;
 }
 
--- The names may be said otherwise.
-pub reads_as : {S A : Type 0} (wanted : Files → Result A Refusal) (names others : Files → List (List ℕ)) (view : StoreView S) (old new : S) (result : Result A Refusal) → ((given : Files) → names given ≡ others given) → Reads wanted names view old new result → Reads wanted others view old new result
-reads_as wanted names others view old new result same read = record {
-  found = read.found;
-  refused = read.refused;
-  named = λ given name told is. subst (λ (t : List (List ℕ)). Contains t name) (same given) (read.named given name told is);
+-- The same may be said otherwise.
+reads_as : {S A : Type 0} (wanted asked : Files → Result A Refusal) (names others : Files → List (List ℕ)) (view : StoreView S) (old new : S) (result : Result A Refusal) → ((given : Files) → wanted given ≡ asked given) → ((given : Files) → names given ≡ others given) → ReadsAs wanted names view old new result → ReadsAs asked others view old new result
+reads_as {A = A} wanted asked names others view old new result is same read = record {
+  found = λ given told. subst (λ (t : Result A Refusal). IfOk result (λ value. t ≡ Ok value)) (is given) (read.found given told);
+  refused = λ given told stood.
+      subst (λ (t : Result A Refusal). IfErr result (λ refusal. (refusal ≡ NoMemory) ⊎ (t ≡ Err refusal))) (is given) (read.refused given told stood);
+  named = λ given name told named. subst (λ (t : List (List ℕ)). Contains t name) (same given) (read.named given name told named);
   once = record {
     asked = read.once.asked;
     are_asked = read.once.are_asked;
@@ -192,32 +196,47 @@ nothing_then : {A : Type 0} (r : Result A Refusal) → names_then r (λ _. []) �
 nothing_then (Ok value) = refl
 nothing_then (Err refusal) = refl
 
-no_more : {A : Type 0} (names : List (List ℕ)) (r : Result A Refusal) → names ++ names_then r (λ _. []) ≡ names
-no_more names r = ap (λ (t : List (List ℕ)). names ++ t) (nothing_then r) ∙ append-nil names
+only_bytes : (r : Result (List ℕ) Refusal) → r ≡ and_then r (λ bytes. Ok bytes)
+only_bytes (Ok bytes) = refl
+only_bytes (Err refusal) = refl
 
--- one read, and then a step that reads nothing
-pub reads_and : {S A B : Type 0} (wanted : Files → Result A Refusal) (names : Files → List (List ℕ)) (next : A → Result B Refusal) (view : StoreView S) (s0 s1 : S) (value : A) (result : Result B Refusal)
-    → Reads wanted names view s0 s1 (Ok value)
-    → Answers (next value) result → ((name : List ℕ) → next value ≢ Err (Read name))
-    → Reads (λ given. and_then (wanted given) next) names view s0 s1 result
-reads_and wanted names next view s0 s1 value result first answer other =
-    reads_as _ _ names _ _ _ result (λ given. no_more (names given) (wanted given))
-    (reads_then wanted names (λ a _. next a) (λ _ _. []) view s0 s1 s1 value result first
-    (reads_nothing (next value) result view s1 answer other))
+-- the file of one name
+pub file_read : {S : Type 0} (name : List ℕ) (kind : FileKind) (view : StoreView S) (old new : S) (result : Result (List ℕ) Refusal) → ReadsAs (file_of name kind) (λ _. name ∷ []) view old new result → Reads (file name kind) view old new result
+file_read name kind view old new result read =
+    reads_as (file_of name kind) (answer_of (file name kind)) (λ _. name ∷ []) (names_read (file name kind)) view old new result
+    (λ given. only_bytes (file_of name kind given))
+    (λ given. ap (λ (l : List (List ℕ)). name ∷ l) (sym (nothing_then (file_of name kind given)))) read
 
-pub reads_ended : {S A B : Type 0} (wanted : Files → Result A Refusal) (names : Files → List (List ℕ)) (next : A → Result B Refusal) (view : StoreView S) (old new : S) (refusal : Refusal)
-    → Reads wanted names view old new (Err refusal) → Reads (λ given. and_then (wanted given) next) names view old new (Err refusal)
-reads_ended {S} {A} {B} wanted names next view old new refusal first =
-    reads_as {A = B} _ _ names view old new (Err refusal) (λ given. no_more (names given) (wanted given))
-    (reads_stopped {A = A} {B = B} wanted names (λ a _. next a) (λ _ _. []) view old new refusal first)
+-- one plan, and then another
+pub plan_then : {S A B : Type 0} (plan : Plan A) (next : A → Plan B) (view : StoreView S) (s0 s1 s2 : S) (value : A) (result : Result B Refusal) → Reads plan view s0 s1 (Ok value) → Reads (next value) view s1 s2 result → Reads (plan >>= next) view s0 s2 result
+plan_then plan next view s0 s1 s2 value result first second =
+    reads_as _ (answer_of (plan >>= next)) _ (names_read (plan >>= next)) view s0 s2 result
+    (λ given. sym (answer_then next given plan)) (λ given. sym (names_after next given plan))
+    (reads_then (answer_of plan) (names_read plan) (λ a. answer_of (next a)) (λ a. names_read (next a)) view s0 s1 s2 value result first second)
+
+-- one plan that is refused, so that nothing comes after it
+pub plan_stopped : {S A B : Type 0} (plan : Plan A) (next : A → Plan B) (view : StoreView S) (old new : S) (refusal : Refusal) → Reads plan view old new (Err refusal) → Reads (plan >>= next) view old new (Err refusal)
+plan_stopped {A = A} {B = B} plan next view old new refusal first =
+    reads_as {A = B} _ (answer_of (plan >>= next)) _ (names_read (plan >>= next)) view old new (Err refusal)
+    (λ given. sym (answer_then next given plan)) (λ given. sym (names_after next given plan))
+    (reads_stopped {A = A} {B = B} (answer_of plan) (names_read plan) (λ a. answer_of (next a)) (λ a. names_read (next a)) view old new refusal first)
+
+-- one plan, and then a step that reads nothing
+pub plan_and : {S A B : Type 0} (plan : Plan A) (next : A → Result B Refusal) (view : StoreView S) (s0 s1 : S) (value : A) (result : Result B Refusal) → Reads plan view s0 s1 (Ok value)
+    → Answers (next value) result → ((name : List ℕ) → next value ≢ Err (Read name)) → Reads (plan >>= (λ a. Give (next a))) view s0 s1 result
+plan_and plan next view s0 s1 value result first answer other =
+    plan_then plan (λ a. Give (next a)) view s0 s1 s1 value result first (reads_nothing (next value) result view s1 answer other)
+
+pub plan_ended : {S A B : Type 0} (plan : Plan A) (next : A → Result B Refusal) (view : StoreView S) (old new : S) (refusal : Refusal) → Reads plan view old new (Err refusal) → Reads (plan >>= (λ a. Give (next a))) view old new (Err refusal)
+plan_ended plan next view old new refusal first = plan_stopped plan (λ a. Give (next a)) view old new refusal first
 
 -- Want of memory may come in place of any answer.
-pub reads_memory : {S A : Type 0} (wanted : Files → Result A Refusal) (names : Files → List (List ℕ)) (view : StoreView S) (s : S) → Reads {A = A} wanted names view s s (Err NoMemory)
-reads_memory wanted names view s = record {
+pub reads_memory : {S A : Type 0} (plan : Plan A) (view : StoreView S) (s : S) → Reads plan view s s (Err NoMemory)
+reads_memory plan view s = record {
   found = λ given told. tt;
   refused = λ given told stood. inl refl;
   named = λ given name told same. cc;
-  once = asks_nothing names view s _ (λ given through. absurd (through.1 refl));
+  once = asks_nothing (names_read plan) view s _ (λ given through. absurd (through.1 refl));
   unread = λ name same. cc;
   steady = λ _. refl;
   later = omega arith;
@@ -225,6 +244,6 @@ reads_memory wanted names view s = record {
 }
 
 -- the same of a name that is spelt otherwise
-pub reads_named : {S A : Type 0} (wanted : List ℕ → Files → Result A Refusal) (view : StoreView S) (old new : S) (result : Result A Refusal) (spelt name : List ℕ) → spelt ≡ name → Reads (wanted spelt) (λ _. spelt ∷ []) view old new result → Reads (wanted name) (λ _. name ∷ []) view old new result
-reads_named wanted view old new result spelt name same read =
-    subst (λ (n : List ℕ). Reads (wanted n) (λ _. n ∷ []) view old new result) same read
+pub reads_named : {S A : Type 0} (plan : List ℕ → Plan A) (view : StoreView S) (old new : S) (result : Result A Refusal) (spelt name : List ℕ) → spelt ≡ name → Reads (plan spelt) view old new result → Reads (plan name) view old new result
+reads_named plan view old new result spelt name same read =
+    subst (λ (n : List ℕ). Reads (plan n) view old new result) same read

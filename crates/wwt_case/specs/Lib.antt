@@ -1,3 +1,4 @@
+pub mod Plan
 pub mod Files
 pub mod Programs
 pub mod Case

@@ -12,12 +12,12 @@ use Rattle.image_loader.specs.Faults.{load_fault}
 use Rattle.image_loader.specs.Images.{LoadedImages, loaded_with}
 use Rattle.machine_json.specs.declared.description.ImageSpec.{ImageSpec}
 use Rattle.machine_json.specs.declared.description.ImageSpec.TheVariants.{Bytes, File}
-use Rattle.wt_outside.specs.Files.{Files}
 use Rattle.wwt_case.specs.declared.refusal.Refusal.{Refusal}
 use Rattle.wwt_case.specs.declared.refusal.Refusal.TheVariants.{Image as RefusedImage, NoMemory}
 use Rattle.wwt_case.specs.declared.refusal.ImageRefusal.TheVariants.{Elf, Outside, Entry}
 use Rattle.wwt_case.specs.declared.refusal.FileKind.TheVariants as kinds
-use Rattle.wwt_case.specs.Files.{file_of, and_then, names_then}
+use Rattle.wwt_case.specs.Plan.{Plan, ◌>>=◌, file}
+use Rattle.wwt_case.specs.Plan.Plan.{Give}
 
 -- an executable, or why the image with this number is none
 abbrev pub executable : ℕ → Result Image ImageFault → Result Image Refusal
@@ -30,30 +30,22 @@ program_of number true at bytes = executable number (elf_of bytes)
 program_of number false at bytes = Ok (flat_image bytes at)
 
 -- the image of a file
-abbrev pub file_image : ℕ → List ℕ → Bool → ℕ → Files → Result Image Refusal
-file_image number name elf at files =
-    and_then (file_of name (kinds.Image number) files) (program_of number elf at)
+abbrev pub file_plan : ℕ → List ℕ → Bool → ℕ → Plan Image
+file_plan number name elf at = do
+  bytes ← file name (kinds.Image number)
+  Give (program_of number elf at bytes)
 
 -- the image with a number, by its entry in the description
-abbrev pub image_case : ℕ → ImageSpec → Files → Result Image Refusal
-image_case number (Bytes at bytes) files = Ok (flat_image bytes at)
-image_case number (File name elf at) files = file_image number name elf at files
-
-abbrev pub image_names : ImageSpec → List (List ℕ)
-image_names (Bytes at bytes) = []
-image_names (File name elf at) = name ∷ []
+abbrev pub image_plan : ℕ → ImageSpec → Plan Image
+image_plan number (Bytes at bytes) = Give (Ok (flat_image bytes at))
+image_plan number (File name elf at) = file_plan number name elf at
 
 -- the images after those that were found, which are counted on from a number
-abbrev pub images_from : List Image → ℕ → List ImageSpec → Files → Result (List Image) Refusal
-images_from found number [] files = Ok found
-images_from found number (entry ∷ entries) files =
-    and_then (image_case number entry files) (λ image. images_from (found ++ image ∷ []) (number + 1) entries files)
-
--- the names that are read for them: none after a refusal
-abbrev pub names_from : ℕ → List ImageSpec → Files → List (List ℕ)
-names_from number [] files = []
-names_from number (entry ∷ entries) files =
-    image_names entry ++ names_then (image_case number entry files) (λ _. names_from (number + 1) entries files)
+abbrev pub images_plan : List Image → ℕ → List ImageSpec → Plan (List Image)
+images_plan found number [] = Give (Ok found)
+images_plan found number (entry ∷ entries) = do
+  image ← image_plan number entry
+  images_plan (found ++ image ∷ []) (number + 1) entries
 
 -- a fault of loading, as the refusal of the image
 abbrev pub refused_load : LoadFault → Refusal

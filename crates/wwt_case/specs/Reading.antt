@@ -1,5 +1,5 @@
 -- What a call that reads from a store answers, next to what the files call for. Own.
-use Rattle.std.specs.Prelude.{◌≡◌, ◌≢◌, ⊤, ℕ, ◌≤◌, ◌⊎◌, List, ◌++◌, Contains, Option, Some, Result, Ok, Err, IfOk, IfErr}
+use Rattle.std.specs.Prelude.{◌≡◌, ◌≢◌, ⊤, ℕ, ◌≤◌, ◌⊎◌, List, ◌++◌, Contains, Some, Result, Ok, Err, IfOk, IfErr}
 use Rattle.wt_outside.specs.Faults.{Rose, Stood}
 use Rattle.wt_outside.specs.Asked.{AreAsked}
 use Rattle.wt_outside.specs.Files.{Files, IsMissing}
@@ -7,6 +7,7 @@ use Rattle.wt_outside.specs.Views.{StoreView}
 use Rattle.elf_image.specs.declared.fault.ImageFault.TheVariants as files
 use Rattle.machine_json.specs.declared.fault.MachineFault.TheVariants as machines
 use Rattle.wwt_case.specs.Files.{read_limit}
+use Rattle.wwt_case.specs.Plan.{Plan, answer_of, names_read}
 use Rattle.wwt_case.specs.declared.refusal.ImageRefusal.TheVariants.{Elf}
 use Rattle.wwt_case.specs.declared.refusal.Refusal.{Refusal}
 use Rattle.wwt_case.specs.declared.refusal.Refusal.TheVariants.{Usage, Read, Machine, Image, Write, NoMemory}
@@ -35,7 +36,7 @@ IsThrough view old new (Err refusal) = IsSound view old new × (refusal ≢ NoMe
 
 -- What is answered is what the told files call for, or want of memory. A file can't be read only where the told files
 -- lack its name, or where a fault rose. Each name that is listed is read once, in order, and none after a refusal.
-pub record Reads {S A : Type 0} (wanted : Files → Result A Refusal) (names : Files → List (List ℕ)) (view : StoreView S) (old new : S) (result : Result A Refusal) : Type 0 where
+pub record ReadsAs {S A : Type 0} (wanted : Files → Result A Refusal) (names : Files → List (List ℕ)) (view : StoreView S) (old new : S) (result : Result A Refusal) : Type 0 where
   pub found : (files : Files) → view.files old ≡ Some files → IfOk result (λ value. wanted files ≡ Ok value)
   pub refused : (files : Files) → view.files old ≡ Some files → IsSound view old new → IfErr result (λ refusal. (refusal ≡ NoMemory) ⊎ (wanted files ≡ Err refusal))
   pub named : (files : Files) (name : List ℕ) → view.files old ≡ Some files → result ≡ Err (Read name) → Contains (names files) name
@@ -44,6 +45,10 @@ pub record Reads {S A : Type 0} (wanted : Files → Result A Refusal) (names : F
   pub steady : ((name : List ℕ) → result ≢ Err (Read name)) → view.faults new ≡ view.faults old
   pub later : view.faults old ≤ view.faults new
   pub kept : view.files new ≡ view.files old
+
+-- the same of a plan
+abbrev pub Reads : {S A : Type 0} → Plan A → StoreView S → S → S → Result A Refusal → Type 0
+Reads plan view old new result = ReadsAs (answer_of plan) (names_read plan) view old new result
 
 -- Want of memory has a name of its own, and is never told as a fault of a file.
 abbrev pub IsByItsName : Refusal → Type 0

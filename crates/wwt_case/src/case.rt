@@ -1,8 +1,7 @@
 ghost use Rattle.std.specs.Prelude.{◌≡◌, ◌≢◌, ◌≤◌, ◌⊎◌, ◌∷◌, [], Some, Err, All, length, map, string_bytes, true, false, IfOk, IfErr, IfSome, IsErrOf};
 ghost use Rattle.elf_image.specs.Sizes.{HoldsItsBytes};
 ghost use Rattle.machine_json.specs.Description.{description_of, HasImages};
-ghost use Rattle.wwt_case.specs.Case.{case_of, names_of, is_usage_of, command_case, command_names, check_case, run_case, with_budget_of, generated_case, generated_names, described_case, described_names, machine_case, loaded_machine, description_case, description_or, dis_case, dis_of, flat_case, flat_of, input_name, HasRanges, IsBudget, IsLoaded, IsReady};
-ghost use Rattle.wwt_case.specs.Programs.{names_from};
+ghost use Rattle.wwt_case.specs.Case.{plan_of, is_usage_of, command_plan, check_plan, run_plan, with_budget_of, generated_plan, described_plan, machine_plan, loaded_machine, description_plan, description_or, dis_plan, dis_of, flat_plan, flat_of, input_name, HasRanges, IsBudget, IsLoaded, IsReady};
 ghost use Rattle.wwt_case.specs.Reading.{Answers, Reads, IsByItsName, IsOther};
 ghost use Rattle.wwt_words.specs.Words.{command_of};
 
@@ -23,7 +22,7 @@ use wwt_words::{Command, WordFault, read_words};
 /// The job that the words and the files of the store call for, or why there is none. Each name that is listed for it is
 /// read once, in order, and none after a refusal.
 pub fn prepare<S: Store>(alloc: Global, words: &[String], store: &mut S) -> Result<Job, Refusal>
-    ensures read { Reads (case_of (map string_bytes words.now)) (names_of (map string_bytes words.now)) S.view store.old store.new result }
+    ensures read { Reads (plan_of (map string_bytes words.now)) S.view store.old store.new result }
     ensures ready { IfOk result IsReady }
     ensures accepted { IfOk result (λ _. is_usage_of (command_of (map string_bytes words.now)) ≡ false) }
     ensures usage { IsErrOf result Refusal.Usage → is_usage_of (command_of (map string_bytes words.now)) ≡ true }
@@ -46,7 +45,7 @@ fn prepare_command<S: Store>(
     store: &mut S,
 ) -> Result<Job, Refusal>
     requires { HasRanges command.now }
-    ensures read { Reads (command_case (Some command.now)) (command_names (Some command.now)) S.view store.old store.new result }
+    ensures read { Reads (command_plan (Some command.now)) S.view store.old store.new result }
     ensures ready { IfOk result IsReady }
     ensures accepted { IfOk result (λ _. is_usage_of (Some command.now) ≡ false) }
     ensures usage { IsErrOf result Refusal.Usage → is_usage_of (Some command.now) ≡ true }
@@ -84,7 +83,7 @@ fn prepare_command<S: Store>(
 
 /// A machine to be printed.
 fn prepare_check<S: Store>(alloc: Global, name: &str, store: &mut S) -> Result<Job, Refusal>
-    ensures read { Reads (check_case name.now) (described_names name.now) S.view store.old store.new result }
+    ensures read { Reads (check_plan name.now) S.view store.old store.new result }
     ensures ready { IfOk result IsReady }
     ensures other { IsOther result }
 {
@@ -107,7 +106,7 @@ fn prepare_run<S: Store>(
     store: &mut S,
 ) -> Result<Job, Refusal>
     requires { IfSome budget IsBudget }
-    ensures read { Reads (run_case name.now budget trace memory) (described_names name.now) S.view store.old store.new result }
+    ensures read { Reads (run_plan name.now budget trace memory) S.view store.old store.new result }
     ensures ready { IfOk result IsReady }
     ensures other { IsOther result }
 {
@@ -136,7 +135,7 @@ fn with_budget(machine: &Machine, budget: Option<u64>) -> Machine
 /// A generated machine to be run.
 fn prepare_load<S: Store>(alloc: Global, number: u64, store: &mut S) -> Result<Job, Refusal>
     requires { number ≤ 9999 }
-    ensures read { Reads (generated_case number) (generated_names number) S.view store.old store.new result }
+    ensures read { Reads (generated_plan number) S.view store.old store.new result }
     ensures ready { IfOk result IsReady }
     ensures other { IsOther result }
 {
@@ -156,7 +155,7 @@ fn prepare_described<S: Store>(
     name: &str,
     store: &mut S,
 ) -> Result<Described, Refusal>
-    ensures read { Reads (described_case name.now) (described_names name.now) S.view store.old store.new result }
+    ensures read { Reads (described_plan name.now) S.view store.old store.new result }
     ensures ready { IfOk result IsLoaded }
     ensures other { IsOther result }
 {
@@ -173,7 +172,7 @@ fn prepare_machine<S: Store>(
     store: &mut S,
 ) -> Result<Described, Refusal>
     requires { HasImages description.now }
-    ensures read { Reads (machine_case description.now) (names_from 0 description.now.images) S.view store.old store.new result }
+    ensures read { Reads (machine_plan description.now) S.view store.old store.new result }
     ensures ready { IfOk result IsLoaded }
     ensures other { IsOther result }
 {
@@ -215,7 +214,7 @@ fn read_description<S: Store>(
     name: &str,
     store: &mut S,
 ) -> Result<Description, Refusal>
-    ensures read { Reads (description_case name.now) (λ _. name.now ∷ []) S.view store.old store.new result }
+    ensures read { Reads (description_plan name.now) S.view store.old store.new result }
     ensures images { IfOk result HasImages }
     ensures other { IsOther result }
 {
@@ -241,7 +240,7 @@ fn describe(alloc: Global, bytes: &[u8]) -> Result<Description, Refusal>
 
 /// The image of a name, whose words are to be printed.
 fn prepare_dis<S: Store>(alloc: Global, name: &str, store: &mut S) -> Result<Job, Refusal>
-    ensures read { Reads (dis_case name.now) (λ _. name.now ∷ []) S.view store.old store.new result }
+    ensures read { Reads (dis_plan name.now) S.view store.old store.new result }
     ensures ready { IfOk result IsReady }
     ensures other { IsOther result }
 {
@@ -267,7 +266,7 @@ fn dis_job(alloc: Global, bytes: Bytes) -> Result<Job, Refusal>
 
 /// Flat bytes from standard input.
 fn prepare_flat<S: Store>(alloc: Global, store: &mut S) -> Result<Job, Refusal>
-    ensures read { Reads flat_case (λ _. input_name ∷ []) S.view store.old store.new result }
+    ensures read { Reads (flat_plan input_name) S.view store.old store.new result }
     ensures ready { IfOk result IsReady }
     ensures other { IsOther result }
 {

@@ -1,7 +1,7 @@
 ghost use Rattle.std.specs.Prelude.{◌≡◌, ◌+◌, ◌%◌, ◌^◌, ◌<◌, ◌∷◌, ◌++◌, [], length, All, IfOk, IfErr, OnOk};
 ghost use Rattle.elf_image.specs.Sizes.{HoldsItsBytes};
 ghost use Rattle.machine_json.specs.Images.{IsPlaced};
-ghost use Rattle.wwt_case.specs.Programs.{image_case, image_names, file_image, images_from, names_from};
+ghost use Rattle.wwt_case.specs.Programs.{image_plan, file_plan, images_plan};
 ghost use Rattle.wwt_case.specs.Reading.{Reads, IsOther};
 
 use crate::name::Name;
@@ -69,7 +69,7 @@ pub fn read_images<S: Store>(
     requires placed { All IsPlaced entries.now }
     requires few { number + length entries.now < 2 ^ 32 }
     requires held { All HoldsItsBytes found }
-    ensures read { Reads (images_from found number entries.now) (names_from number entries.now) S.view store.old store.new result }
+    ensures read { Reads (images_plan found number entries.now) S.view store.old store.new result }
     ensures other { IsOther result }
     ensures bytes { IfOk result (All HoldsItsBytes) }
     ensures count { IfOk result (λ images. length images ≡ length found + length entries.now) }
@@ -107,7 +107,7 @@ pub fn read_image<S: Store>(
     store: &mut S,
 ) -> Result<Image, Refusal>
     requires { IsPlaced entry.now }
-    ensures read { Reads (image_case number entry.now) (λ _. image_names entry.now) S.view store.old store.new result }
+    ensures read { Reads (image_plan number entry.now) S.view store.old store.new result }
     ensures other { IsOther result }
     ensures bytes { IfOk result HoldsItsBytes }
 {
@@ -135,7 +135,7 @@ pub fn read_program<S: Store>(
     store: &mut S,
 ) -> Result<Image, Refusal>
     requires { at % 4 ≡ 0 }
-    ensures read { Reads (file_image number name.now elf at) (λ _. name.now ∷ []) S.view store.old store.new result }
+    ensures read { Reads (file_plan number name.now elf at) S.view store.old store.new result }
     ensures other { IsOther result }
     ensures bytes { IfOk result HoldsItsBytes }
 {

@@ -1,5 +1,6 @@
-ghost use Rattle.std.specs.Prelude.{◌≡◌, ◌∷◌, []};
-ghost use Rattle.wwt_case.specs.Files.{file_of, too_long_of};
+ghost use Rattle.std.specs.Prelude.{◌≡◌};
+ghost use Rattle.wwt_case.specs.Files.{too_long_of};
+ghost use Rattle.wwt_case.specs.Plan.{file};
 ghost use Rattle.wwt_case.specs.Reading.{Reads, IsOther, IsOtherRefusal};
 
 use crate::name::Name;
@@ -13,7 +14,7 @@ const READ_LIMIT: u64 = 16_777_216;
 
 /// The bytes of the file of a name, which is read as this kind of file.
 pub fn read_file<S: Store>(store: &mut S, name: Name, kind: FileKind) -> Result<Bytes, Refusal>
-    ensures read { Reads (file_of name kind) (λ _. name ∷ []) S.view store.old store.new result }
+    ensures read { Reads (file name kind) S.view store.old store.new result }
     ensures other { IsOther result }
 {
     match store.read(name.get(), READ_LIMIT) {

@@ -15,7 +15,7 @@ use Rattle.wwt_case.specs.declared.refusal.Refusal.{Refusal}
 use Rattle.wwt_case.specs.declared.refusal.Refusal.TheVariants as refusals
 use Rattle.wwt_words.specs.Words.{command_of}
 use Rattle.wwt_case.specs.Case.{is_usage_of}
-use Rattle.wwt_case.specs.Reading.{Asks, Reads, IsByItsName, IsSound, IsThrough}
+use Rattle.wwt_case.specs.Reading.{Asks, ReadsAs, IsByItsName, IsSound, IsThrough}
 use Rattle.node.specs.declared.state.NodeState.{NodeState}
 use Rattle.wt_stats.specs.declared.head.Outcome.{Outcome}
 use Rattle.wt_stats.specs.declared.head.Outcome.TheVariants as outcomes
@@ -80,7 +80,7 @@ ends_early (Err reason) = inr refl
 
 -- ---- the words and the files are refused
 
-module _ {S K : Type 0} (words : Words) (store : StoreView S) (s0 s1 : S) (out : SinkView K) (k : K) (refusal : Refusal) (read : Reads (wanted words) (listed words) store s0 s1 (Err refusal)) where
+module _ {S K : Type 0} (words : Words) (store : StoreView S) (s0 s1 : S) (out : SinkView K) (k : K) (refusal : Refusal) (read : ReadsAs (wanted words) (listed words) store s0 s1 (Err refusal)) where
   same_name : (name : List ℕ) → ◌≡◌ {A = Result Status Refusal} (Err refusal) (Err (refusals.Read name)) → ◌≡◌ {A = Result Job Refusal} (Err refusal) (Err (refusals.Read name))
   same_name name same = let is : refusal ≡ refusals.Read name = cc in ap Err is
 
@@ -146,7 +146,7 @@ module _ {S K : Type 0} (words : Words) (store : StoreView S) (s0 s1 : S) (out :
 
 -- ---- there is a job
 
-module _ {S K : Type 0} (words : Words) (store : StoreView S) (s0 s1 : S) (out : SinkView K) (k0 k1 : K) (job : Job) (read : Reads (wanted words) (listed words) store s0 s1 (Ok job)) (accepted : is_usage_of (command_of (texts_of words)) ≡ false) where
+module _ {S K : Type 0} (words : Words) (store : StoreView S) (s0 s1 : S) (out : SinkView K) (k0 k1 : K) (job : Job) (read : ReadsAs (wanted words) (listed words) store s0 s1 (Ok job)) (accepted : is_usage_of (command_of (texts_of words)) ≡ false) where
   told_output : (files : Files) → store.files s0 ≡ Some files → (P : List ℕ → Type 0) → P (output_of_job job) → P (output_of (wanted words files))
   told_output files told P p = subst (λ (c : Result Job Refusal). P (output_of c)) (sym (read.found files told)) p
 

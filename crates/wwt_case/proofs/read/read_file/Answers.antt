@@ -2,46 +2,49 @@ use Rattle.std.proofs.Common.{◌⊎◌, Err, ap, subst, rules}
 use Rattle.wt_outside.specs.Faults.{Rose}
 use Rattle.wt_outside.specs.Files.{IsMissing}
 use Rattle.wwt_case.specs.Files.{read_limit}
-use Rattle.wwt_case.proofs.ReadLemmas.{asks_one, failed_read}
+use Rattle.wwt_case.proofs.ReadLemmas.{asks_one, failed_read, file_read}
 use Rattle.wwt_case.proofs.read.read_file.Goals as goal
 
 pub returns-in-Ok-clause-read : goal.returns-in-Ok-clause-read
-returns-in-Ok-clause-read g c = record {
-  found = search rules;
-  refused = search rules;
-  named = search rules;
-  once = asks_one _ c.args.name _ _ _ _ c.get.ensures c.in-Ok.ensures.asked;
-  unread = search rules;
-  steady = search rules;
-  later = search rules;
-  kept = search rules;
-}
+returns-in-Ok-clause-read g c =
+    file_read c.args.name c.args.kind _ _ _ _ (record {
+      found = search rules;
+      refused = search rules;
+      named = search rules;
+      once = asks_one _ c.args.name _ _ _ _ c.get.ensures c.in-Ok.ensures.asked;
+      unread = search rules;
+      steady = search rules;
+      later = search rules;
+      kept = search rules;
+    })
 
 pub returns-in-Err-Failed-clause-read : goal.returns-in-Err-Failed-clause-read
 returns-in-Err-Failed-clause-read g c =
-    failed_read c.args.name c.args.kind _ _ _ (subst (λ n. Rose (g.S.Store.view.faults c.args.store.now) (g.S.Store.view.faults c.read.new.self) ⊎ IsMissing (g.S.Store.view.files c.args.store.now) n) c.get.ensures (c.in-Err-Failed.ensures.failed (ap Err c.in-Err-Failed.field-0-is)))
-    (subst (λ n. g.S.Store.view.asked c.args.store.now n read_limit c.read.new.self) c.get.ensures c.in-Err-Failed.ensures.asked) c.in-Err-Failed.ensures.later c.in-Err-Failed.ensures.files
+    file_read c.args.name c.args.kind _ _ _ _ (failed_read c.args.name c.args.kind _ _ _ (subst (λ n. Rose (g.S.Store.view.faults c.args.store.now) (g.S.Store.view.faults c.read.new.self) ⊎ IsMissing (g.S.Store.view.files c.args.store.now) n) c.get.ensures (c.in-Err-Failed.ensures.failed (ap Err c.in-Err-Failed.field-0-is)))
+    (subst (λ n. g.S.Store.view.asked c.args.store.now n read_limit c.read.new.self) c.get.ensures c.in-Err-Failed.ensures.asked) c.in-Err-Failed.ensures.later c.in-Err-Failed.ensures.files)
 
 pub returns-in-Err-TooLong-clause-read : goal.returns-in-Err-TooLong-clause-read
-returns-in-Err-TooLong-clause-read g c = record {
-  found = search rules;
-  refused = search rules;
-  named = search rules;
-  once = asks_one _ c.args.name _ _ _ _ c.get.ensures c.in-Err-TooLong.ensures.asked;
-  unread = search rules;
-  steady = search rules;
-  later = search rules;
-  kept = search rules;
-}
+returns-in-Err-TooLong-clause-read g c =
+    file_read c.args.name c.args.kind _ _ _ _ (record {
+      found = search rules;
+      refused = search rules;
+      named = search rules;
+      once = asks_one _ c.args.name _ _ _ _ c.get.ensures c.in-Err-TooLong.ensures.asked;
+      unread = search rules;
+      steady = search rules;
+      later = search rules;
+      kept = search rules;
+    })
 
 pub returns-in-Err-NoMemory-clause-read : goal.returns-in-Err-NoMemory-clause-read
-returns-in-Err-NoMemory-clause-read g c = record {
-  found = search rules;
-  refused = search rules;
-  named = search rules;
-  once = asks_one _ c.args.name _ _ _ _ c.get.ensures c.in-Err-NoMemory.ensures.asked;
-  unread = search rules;
-  steady = search rules;
-  later = search rules;
-  kept = search rules;
-}
+returns-in-Err-NoMemory-clause-read g c =
+    file_read c.args.name c.args.kind _ _ _ _ (record {
+      found = search rules;
+      refused = search rules;
+      named = search rules;
+      once = asks_one _ c.args.name _ _ _ _ c.get.ensures c.in-Err-NoMemory.ensures.asked;
+      unread = search rules;
+      steady = search rules;
+      later = search rules;
+      kept = search rules;
+    })
