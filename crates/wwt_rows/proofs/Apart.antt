@@ -15,8 +15,8 @@ module _ (name : String Global) (bytes : Vec ℕ Global) where
   apart_from other [] apart new = All-cons (λ (it : List ℕ). other ≢ it) (string_bytes name) [] new (All-nil (λ (it : List ℕ). other ≢ it))
   apart_from other (file ∷ files) apart new =
       All-cons (λ (it : List ℕ). other ≢ it) (string_bytes file.0) (names (files ++ (name, bytes) ∷ []))
-        (All-head (λ (it : List ℕ). other ≢ it) (string_bytes file.0) (names files) apart)
-        (apart_from other files (All-tail (λ (it : List ℕ). other ≢ it) (string_bytes file.0) (names files) apart) new)
+      (All-head (λ (it : List ℕ). other ≢ it) (string_bytes file.0) (names files) apart)
+      (apart_from other files (All-tail (λ (it : List ℕ). other ≢ it) (string_bytes file.0) (names files) apart) new)
 
   pub apart_push : (files : List (String Global × Vec ℕ Global)) → AreNamedApart files → IsNew (string_bytes name) files → AreNamedApart (files ++ (name, bytes) ∷ [])
   apart_push [] apart new = (All-nil (λ (it : List ℕ). string_bytes name ≢ it), tt)

@@ -70,7 +70,10 @@ fn told(
         Some(bytes) => String::from_utf8_lossy(alloc, bytes)?,
         None => String::from_str(alloc, "missing")?,
     };
-    Ok(format!(in alloc; "line {number} of the {of} is {line}, wanted {}", wanted.unwrap_or("none"))?)
+    Ok(format!(in alloc;
+        "line {number} of the {of} is {line}, wanted {}",
+        wanted.unwrap_or("none")
+    )?)
 }
 
 /// The first of these lines that the text doesn't have after the ones before it.

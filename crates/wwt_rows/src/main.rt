@@ -12,10 +12,9 @@ mod tests;
 use anyhow::{Context, Result, ensure};
 use play::play;
 use row::Group;
-use std::env;
-use std::fs;
 use std::process::ExitCode;
 use std::rt::Env;
+use std::{env, fs};
 use sum::Sum;
 
 fn main(rt: HostRuntime) -> ExitCode {

@@ -13,6 +13,7 @@ use wwt_run::wwt_plain;
 
 /// The room of the output, and that of the error sink.
 const OUTPUT_ROOM: u64 = 1 << 22;
+
 const ERROR_ROOM: u64 = 1 << 12;
 
 /// Runs a row over these files and its own. The first difference to what it wants, if there is one.
@@ -29,8 +30,9 @@ pub fn play(
     let mut store = MemStore::new(alloc, files, row.failing_reads.clone()?);
     let mut out = sink(alloc, OUTPUT_ROOM, &row.failing_writes, row.kept)?;
     let mut err = sink(alloc, ERROR_ROOM, &row.failing_error_writes, 0)?;
-    let status = wwt_plain(alloc, &row.words, &mut store, &mut out, &mut err)
-        .context("the program gave no status")?;
+    let status = wwt_plain(alloc, &row.words, &mut store, &mut out, &mut err).context(
+        "the program gave no status",
+    )?;
     let ran = Ran {
         status: status.code(),
         out: out.bytes(),
@@ -54,7 +56,9 @@ fn add_all(
     ensures { OnOk result (AreNamedApart files.new.items) }
 {
     for (name, content) in named {
-        let bytes = content.bytes(alloc).context(format_args!("the file {name}"))?;
+        let bytes = content
+            .bytes(alloc)
+            .context(format_args!("the file {name}"))?;
         add(files, name.clone()?, bytes)?;
     }
     Ok(())

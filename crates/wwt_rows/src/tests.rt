@@ -11,7 +11,12 @@ fn group_of(alloc: Global, wanted: &str) -> Result<Group, Fail> {
 }
 
 /// What is told of a command that ended by 3, put out two lines and told an error.
-fn told(rt: &impl Abort, alloc: Global, row: &Row, difference_is: Option<&str>) -> Result<(), Fail> {
+fn told(
+    rt: &impl Abort,
+    alloc: Global,
+    row: &Row,
+    difference_is: Option<&str>,
+) -> Result<(), Fail> {
     let ran = Ran {
         status: 3,
         out: b"one\ntwo\n",
@@ -70,7 +75,12 @@ fn each_difference_is_told(rt: HostRuntime) -> Result<(), Fail> {
     let alloc = rt.alloc();
     for (wanted, difference_is) in TOLD {
         let group = group_of(alloc, wanted)?;
-        told(&rt, alloc, group.rows.first().ok_or("no row")?, difference_is)?;
+        told(
+            &rt,
+            alloc,
+            group.rows.first().ok_or("no row")?,
+            difference_is,
+        )?;
     }
     Ok(())
 }

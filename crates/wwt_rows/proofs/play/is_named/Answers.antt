@@ -14,4 +14,4 @@ loop-other-preserved c =
     let differs = not_from_Decides _ (bytes_eq-Decides (string_bytes c.loop-other-item.result.0) c.args.name.now) other in
     let P : String Global × Vec ℕ Global → Type 0 = λ file. string_bytes file.0 ≢ c.args.name.now in
     AllWithin-more P c.args.files.now 0 c.loop-other.other-index c.loop-other.invariant
-      (at_read c.args.files.now P c.loop-other.other-index c.loop-other-item.result (omega arith) c.loop-other-item.is differs)
+    (at_read c.args.files.now P c.loop-other.other-index c.loop-other-item.result (omega arith) c.loop-other-item.is differs)
