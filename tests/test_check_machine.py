@@ -103,7 +103,8 @@ class CheckMachineTest(ToolTest):
 
     def test_good_ones(self):
         for changes in ({}, {"images": [{"hex": ""}] * 4}, {"quantum": 100, "latency": 100},
-                        {"costs": {"fill": 0}}, {"images": [{"hex": "00", "at": 1048572}]}):
+                        {"costs": {"fill": 0}}, {"images": [{"hex": "00", "at": 1048572}]},
+                        {"sets": 1024, "ways": 4}):
             self.describe(changes)
             self.assertEqual(self.check().stdout, "machine.json: nothing is wrong\n")
 
