@@ -4,10 +4,10 @@ use std::alloc::Global;
 use std::process::Abort;
 use std::test::Fail;
 
-/// The one row of a file that says no more than this of what is wanted.
-fn group_of(alloc: Global, wanted: &str) -> Result<Group, Fail> {
+/// The rows of a file whose one row says no more than this of what is wanted, if they can be read.
+fn group_of(alloc: Global, wanted: &str) -> Result<Option<Group>, Fail> {
     let text = format!(in alloc; r#"{{"rows":[{{"name":"n","words":[],"wanted":{wanted}}}]}}"#)?;
-    Ok(serde_json::from_str(alloc, &text)?)
+    Ok(serde_json::from_str(alloc, &text).ok())
 }
 
 /// What is told of a command that ended by 3, put out two lines and told an error.
@@ -74,7 +74,7 @@ const TOLD: [(&str, Option<&str>); 12] = [
 fn each_difference_is_told(rt: HostRuntime) -> Result<(), Fail> {
     let alloc = rt.alloc();
     for (wanted, difference_is) in TOLD {
-        let group = group_of(alloc, wanted)?;
+        let group = group_of(alloc, wanted)?.ok_or("no rows")?;
         told(
             &rt,
             alloc,
@@ -101,9 +101,9 @@ const REFUSED: [&str; 9] = [
 #[test]
 fn bad_data_is_refused(rt: HostRuntime) -> Result<(), Fail> {
     for wanted in REFUSED {
-        let output_is = match group_of(rt.alloc(), wanted) {
-            Ok(group) => group.rows.first().ok_or("no row")?.wanted.output().is_ok(),
-            Err(_) => false,
+        let output_is = match group_of(rt.alloc(), wanted)? {
+            Some(group) => group.rows.first().ok_or("no row")?.wanted.output().is_ok(),
+            None => false,
         };
         assert!(rt; !output_is, "{wanted}");
     }
