@@ -8,6 +8,3 @@ mod tag;
 
 pub use table::TagTable;
 pub use tag::Tag;
-
-#[cfg(test)]
-mod tests;

@@ -4,6 +4,3 @@
 mod annotation;
 
 pub use annotation::{CicoAction, action};
-
-#[cfg(test)]
-mod tests;

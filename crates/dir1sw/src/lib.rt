@@ -7,6 +7,3 @@ mod home;
 
 pub use directory::{Directory, rows_fit};
 pub use home::{DirAct, HomeBlock, Place};
-
-#[cfg(test)]
-mod tests;

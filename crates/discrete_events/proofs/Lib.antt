@@ -11,8 +11,6 @@ pub mod NewKeys
 pub mod SerialRun
 pub mod RoundIsSerial
 pub mod Whole
-pub mod OnLists
-pub mod Computed
 pub mod Inside
 pub mod Held
 pub mod Interleaving

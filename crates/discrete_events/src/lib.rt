@@ -10,6 +10,3 @@ pub use simulated::{
     Simulated, every_interleaving, keys_are_new, keys_rise, late_message_passes, least_event_peels,
     merges_are_rounds, no_past, round_is_serial, serial_run_ends,
 };
-
-#[cfg(test)]
-mod tests;

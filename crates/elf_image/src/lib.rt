@@ -15,6 +15,3 @@ pub use elf::read_elf;
 pub use fault::ImageFault;
 pub use flat::read_flat;
 pub use image::{Bytes, Image, Segment, Segments};
-
-#[cfg(test)]
-mod tests;

@@ -9,6 +9,3 @@ mod head;
 mod stations;
 
 pub use self::engine::{Engine, Round};
-
-#[cfg(test)]
-mod tests;

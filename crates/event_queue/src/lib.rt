@@ -9,6 +9,3 @@ mod steps;
 
 pub use queue::Queue;
 pub use steps::Steps;
-
-#[cfg(test)]
-mod tests;

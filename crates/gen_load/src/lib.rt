@@ -7,6 +7,3 @@ mod line;
 mod listings;
 
 pub use generator::generate;
-
-#[cfg(test)]
-mod tests;

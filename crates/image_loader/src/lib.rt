@@ -11,6 +11,3 @@ mod loader;
 pub use fault::LoadFault;
 pub use loaded::Loaded;
 pub use loader::load;
-
-#[cfg(test)]
-mod tests;

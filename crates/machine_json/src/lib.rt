@@ -18,6 +18,3 @@ pub use description::{Description, ImageSpec};
 pub use fault::MachineFault;
 pub use lists::{ByteList, FileName, ImageSpecs, Key};
 pub use reader::read_machine;
-
-#[cfg(test)]
-mod tests;

@@ -22,8 +22,3 @@ mod state;
 
 pub use self::node::Node;
 pub use laws::machines_are_simulations;
-
-#[cfg(test)]
-mod rows;
-#[cfg(test)]
-mod tests;

@@ -8,6 +8,3 @@ mod memory;
 
 pub use fault::MemFault;
 pub use memory::PrivMem;
-
-#[cfg(test)]
-mod tests;

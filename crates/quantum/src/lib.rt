@@ -10,6 +10,3 @@ mod station;
 
 pub use quanta::Quanta;
 pub use station::{Outs, Station};
-
-#[cfg(test)]
-mod tests;

@@ -19,6 +19,3 @@ pub use decoder::decode;
 pub use encoder::encode;
 pub use instr::{CicoOp, Instr, LoadOp, StoreOp};
 pub use table::at_most_one_row;
-
-#[cfg(test)]
-mod tests;

@@ -13,6 +13,3 @@ pub use effect::Effect;
 pub use instructions::execute;
 pub use registers::Regs;
 pub use widths::{load_width, store_width, widen};
-
-#[cfg(test)]
-mod tests;

@@ -10,6 +10,3 @@ mod words;
 pub use immediates::{imm_b, imm_i, imm_j, imm_s, imm_u};
 pub use operations::{AluOp, BranchOp, alu, branch_taken};
 pub use words::{bits, sign_extend};
-
-#[cfg(test)]
-mod tests;

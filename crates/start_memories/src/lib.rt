@@ -8,6 +8,3 @@ mod shared;
 
 pub use private::private_at_start;
 pub use shared::directory_at_start;
-
-#[cfg(test)]
-mod tests;

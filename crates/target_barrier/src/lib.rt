@@ -4,6 +4,3 @@
 mod barrier;
 
 pub use barrier::{BarrierUnit, Release};
-
-#[cfg(test)]
-mod tests;

@@ -11,6 +11,3 @@ mod line_set;
 pub use answer::WriteHit;
 pub use cache::Cache;
 pub use line::Line;
-
-#[cfg(test)]
-mod tests;

@@ -4,6 +4,3 @@
 mod trap;
 
 pub use trap::run_trap;
-
-#[cfg(test)]
-mod tests;

@@ -10,6 +10,3 @@ mod write;
 
 pub use machine::write_machine;
 pub use words::write_words;
-
-#[cfg(test)]
-mod tests;

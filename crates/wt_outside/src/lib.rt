@@ -17,6 +17,3 @@ pub use mem_sink::MemSink;
 pub use mem_store::MemStore;
 pub use sink::{Failed, Sink};
 pub use store::{Store, StoreFail};
-
-#[cfg(test)]
-mod tests;

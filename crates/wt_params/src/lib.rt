@@ -12,6 +12,3 @@ mod parts;
 pub use machine::Machine;
 pub use memory::NoMemory;
 pub use parts::{CostParts, Field, MachineParts, ParamFault};
-
-#[cfg(test)]
-mod tests;

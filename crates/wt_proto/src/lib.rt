@@ -23,6 +23,3 @@ pub type Sends = Fifo<Outgoing>;
 
 /// Messages with their stamps, in order.
 pub type StampedList = Fifo<Stamped>;
-
-#[cfg(test)]
-mod tests;

@@ -9,6 +9,3 @@ mod streams;
 
 pub use files::FileStore;
 pub use streams::{ErrSink, OutSink, StreamSink};
-
-#[cfg(test)]
-mod tests;

@@ -20,6 +20,3 @@ pub use trace::traces_are_serial;
 
 /// Why a report wasn't written whole.
 pub use wt_outside::WriteFault as ReportFault;
-
-#[cfg(test)]
-mod tests;

@@ -12,6 +12,3 @@ pub use counters::{COUNTER_NAMES, Counters, counters_are_named};
 pub use head::{Head, Outcome};
 pub use numbers::Totals;
 pub use sums::totals;
-
-#[cfg(test)]
-mod tests;

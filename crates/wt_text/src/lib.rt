@@ -4,6 +4,3 @@
 mod line;
 
 pub use line::Line;
-
-#[cfg(test)]
-mod tests;

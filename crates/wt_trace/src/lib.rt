@@ -13,6 +13,3 @@ pub use merged::{merge, merge_order};
 pub use node_log::{Log, NodeLog};
 pub use record::{Deed, Record, What};
 pub use text::{add_block, add_cause, add_message};
-
-#[cfg(test)]
-mod tests;

@@ -16,6 +16,3 @@ pub use case::prepare;
 pub use job::Job;
 pub use name::Name;
 pub use refusal::{FileKind, ImageRefusal, Refusal};
-
-#[cfg(test)]
-mod tests;

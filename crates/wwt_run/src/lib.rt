@@ -11,6 +11,3 @@ mod top;
 pub use refuse::out_of_memory;
 pub use status::Status;
 pub use top::wwt_plain;
-
-#[cfg(test)]
-mod tests;

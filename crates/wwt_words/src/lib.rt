@@ -14,6 +14,3 @@ mod word;
 pub use command::{Command, WordFault};
 pub use read::read_words;
 pub use word::Word;
-
-#[cfg(test)]
-mod tests;

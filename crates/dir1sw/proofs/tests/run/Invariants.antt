@@ -1,5 +1,0 @@
-use Rattle.dir1sw.specs.Homes.{IsHome}
-use Rattle.dir1sw.proofs.tests.run.Given as goal
-
-abbrev pub invariant-loop-row : goal.invariant-loop-row
-invariant-loop-row g l = IsHome l.directory 0

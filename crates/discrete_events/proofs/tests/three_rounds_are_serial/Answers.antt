@@ -1,5 +1,0 @@
-use Rattle.discrete_events.proofs.Computed.{three_rounds, counts_after, quanta_after, end_after}
-use Rattle.discrete_events.proofs.tests.three_rounds_are_serial.Goals as goal
-
-pub returns : goal.returns
-returns c = record { same = three_rounds; counts = counts_after; quanta = quanta_after; end = end_after }

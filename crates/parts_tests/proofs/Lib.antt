@@ -1,0 +1,2 @@
+mod OnLists
+mod Computed

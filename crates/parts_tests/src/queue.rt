@@ -1,0 +1,86 @@
+ghost use Rattle.std.specs.Prelude.{◌≡◌, ◌<◌, ◌^◌, length};
+
+use event_queue::{Queue, Steps};
+use std::alloc::{AllocError, Global};
+use std::marker::Brand;
+use std::sync::ledger::{Blank, Ledger};
+use std::test::Fail;
+use wt_proto::{Body, Key, Msg, Stamped};
+
+/// Puts messages with these times, destinations and sources into a queue, the last of their sequences first, and
+/// takes them out.
+fn in_order<L: Ledger>(
+    alloc: Global,
+    blank: Blank,
+    rows: &[(u64, u32, u32)],
+) -> Result<Vec<Key>, AllocError>
+    requires name { blank.name ≡ L.name }
+    requires parts { blank.parts ≡ L.parts }
+    requires some { 0 < blank.parts }
+{
+    let mut steps = Steps::<L>::new(blank);
+    let mut queue = Queue::new(alloc);
+    let mut sequence = rows.len() as u64;
+    for (time, to, from) in rows {
+        sequence -= 1;
+        let message = Stamped {
+            time: *time,
+            to: *to,
+            from: *from,
+            sequence,
+            msg: Msg {
+                block: 0,
+                body: Body::Go,
+            },
+        };
+        queue
+            .insert(message, &mut steps)
+            .map_err(|_back| AllocError)?;
+    }
+    let mut keys = Vec::new(alloc);
+    for _row in 0..queue.len() {
+        let first = queue.peek(&mut steps);
+        let message = queue.pop(&mut steps);
+        if let Some(message) = message {
+            if first == Some(message.key()) {
+                keys.push(message.key())?;
+            }
+        }
+    }
+    Ok(keys)
+}
+
+fn in_order_uncounted(alloc: Global, rows: &[(u64, u32, u32)]) -> Result<Vec<Key>, AllocError> {
+    in_order::<Brand>(alloc, Blank::new(1), rows)
+}
+
+#[test]
+fn least_key_first(rt: HostRuntime) -> Result<(), Fail> {
+    let rows = [
+        (7, 1, 1),
+        (7, 1, 0),
+        (3, 2, 0),
+        (7, 0, 9),
+        (3, 2, 0),
+        (9, 0, 0),
+        (3, 1, 4),
+        (3, 2, 0),
+    ];
+    let keys = in_order_uncounted(rt.alloc(), &rows)?;
+    let expected = [
+        (3, 1, 4, 1),
+        (3, 2, 0, 0),
+        (3, 2, 0, 3),
+        (3, 2, 0, 5),
+        (7, 0, 9, 4),
+        (7, 1, 0, 6),
+        (7, 1, 1, 7),
+        (9, 0, 0, 2),
+    ];
+    assert!(rt; keys.len() == expected.len());
+    for (key, expected) in keys.iter().zip(expected) {
+        let found = (key.time, key.to, key.from, key.sequence);
+        assert!(rt; found == expected, "{key:?}");
+    }
+    Ok(())
+}

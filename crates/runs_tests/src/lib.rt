@@ -1,0 +1,17 @@
+//! Tests of what runs: a node, its station, an engine, the report, and the top call.
+#![tactic(auto)]
+
+#[cfg(test)]
+mod engines;
+#[cfg(test)]
+mod event_rows;
+#[cfg(test)]
+mod events;
+#[cfg(test)]
+mod listings;
+#[cfg(test)]
+mod reports;
+#[cfg(test)]
+mod stations;
+#[cfg(test)]
+mod top;
