@@ -1,5 +1,5 @@
 -- What the code of a round needs: that its stations may run and exchange, and what it then comes to.
-use Rattle.std.proofs.Common.{◌≡◌, ℕ, ◌+◌, ◌*◌, ◌^◌, ◌<◌, ◌≤◌, List, ◌++◌, length, take, false, Some, None, refl, ap, sym, ◌∙◌, subst, arith}
+use Rattle.std.proofs.Common.{◌≡◌, ℕ, ◌+◌, ◌*◌, ◌^◌, ◌<◌, ◌≤◌, List, ◌++◌, length, take, false, Some, None, Ok, refl, ap, sym, ◌∙◌, subst, arith}
 use Rattle.std.proofs.Math.Seq.{take-append_seam}
 use Rattle.std.specs.List.{All}
 use Rattle.wt_proto.specs.declared.key.Key.{Key}
@@ -11,14 +11,15 @@ use Rattle.discrete_events.specs.Laws.{IsSerialFrom}
 use Rattle.discrete_events.proofs.SerialRun.{serial-zero}
 use Rattle.node.specs.React.{wind_tunnel}
 use Rattle.quantum.specs.Stations.{StationModel, IsUnbroken as IsWholeStation, machine_of}
-use Rattle.engine.specs.Engine.{EngineModel, IsRunning, world_of}
-use Rattle.engine.specs.Rounds.{IsOver}
-use Rattle.engine.specs.Quantum.{HaveAdvanced, HaveExchanged, MayExchange, earliest_of}
+use Rattle.engine.specs.Engine.{EngineModel, IsRunning, IsUnbroken, world_of}
+use Rattle.engine.specs.declared.engine.Round.TheVariants.{Ended, More}
+use Rattle.engine.specs.Rounds.{GoesRound, IsOver}
+use Rattle.engine.specs.Quantum.{HaveAdvanced, HaveExchanged, MayExchange, MayRun, earliest_of}
 use Rattle.engine.proofs.Places.{all_by}
 use Rattle.engine.proofs.Owned.{earliest_is, its}
 use Rattle.engine.proofs.Letters.{early, exchanges, forward}
-use Rattle.engine.proofs.Merges.{have_advanced}
-use Rattle.engine.proofs.Quanta.{Done, done, event_at, events_bound, is_final}
+use Rattle.engine.proofs.Merges.{have_advanced, numbered_length}
+use Rattle.engine.proofs.Quanta.{Done, done, event_at, events_bound, is_final, no_past}
 
 module _ (engine : EngineModel) (running : IsRunning engine) where
   pub all_whole : All IsWholeStation engine.stations
@@ -42,6 +43,12 @@ module _ (engine : EngineModel) (running : IsRunning engine) where
       let few = few_times engine.machine.nodes engine.machine.event_limit running.numbers.nodes.at_most running.numbers.event_limit.at_most in
       omega arith
 
+  pub few_stations : length engine.stations < 2 ^ 32
+  few_stations =
+      let count = numbered_length engine.machine 0 engine.stations running.world.numbered in
+      let few = running.numbers.nodes.at_most in
+      omega arith
+
   module _ (time : ℕ) (first : earliest_of engine.stations ≡ Some time) where
     -- what the least event brings, at its time
     at_time : (P : ℕ → Type 0) → ((key : Key) (event : Event Msg) → least (events_in (wind_tunnel engine.machine) (world_of engine)) ≡ Some (key, event) → P key.time) → P time
@@ -50,19 +57,20 @@ module _ (engine : EngineModel) (running : IsRunning engine) where
     pub before_budget : time < engine.machine.budget
     before_budget = at_time (λ t. t < engine.machine.budget) (λ key event is. early engine running key event is)
 
-    pub may_run : All (λ (s : StationModel). quantum_end (wind_tunnel engine.machine) time ≤ (machine_of s).budget) engine.stations
-    may_run = all_by (λ (s : StationModel). quantum_end (wind_tunnel engine.machine) time ≤ (machine_of s).budget) engine.stations
-        (λ s member. subst (λ m. quantum_end (wind_tunnel engine.machine) time ≤ m.budget) (sym (its engine running s member).machine_is) (omega arith))
-
-    pub may_go_on : All (λ (s : StationModel). s.until ≤ quantum_end (wind_tunnel engine.machine) time) engine.stations
-    may_go_on = all_by (λ (s : StationModel). s.until ≤ quantum_end (wind_tunnel engine.machine) time) engine.stations
-        (λ s member. at_time (λ t. s.until ≤ quantum_end (wind_tunnel engine.machine) t) (λ key event is. forward engine running key event is s member))
+    pub may_run : MayRun (quantum_end (wind_tunnel engine.machine) time) engine.stations
+    may_run = record {
+      few = few_stations;
+      budget = all_by (λ (s : StationModel). quantum_end (wind_tunnel engine.machine) time ≤ (machine_of s).budget) engine.stations
+          (λ s member. subst (λ m. quantum_end (wind_tunnel engine.machine) time ≤ m.budget) (sym (its engine running s member).machine_is) (omega arith));
+      forward = all_by (λ (s : StationModel). s.until ≤ quantum_end (wind_tunnel engine.machine) time) engine.stations
+          (λ s member. at_time (λ t. s.until ≤ quantum_end (wind_tunnel engine.machine) t) (λ key event is. forward engine running key event is s member));
+    }
 
     pub may_exchange : MayExchange (quantum_end (wind_tunnel engine.machine) time) engine.stations
     may_exchange = at_time (λ t. MayExchange (quantum_end (wind_tunnel engine.machine) t) engine.stations) (λ key event is letters handed. (exchanges engine running key event is letters handed).may)
 
     abbrev after : ℕ → List StationModel → EngineModel
-    after until stations = record { machine = engine.machine; stations = stations; kept_end = until; quanta = engine.quanta + 1; broken = false }
+    after until stations = record { machine = engine.machine; threaded = engine.threaded; stations = stations; kept_end = until; quanta = engine.quanta + 1; broken = false }
 
     pub advanced : (stations : List StationModel) → HaveAdvanced (quantum_end (wind_tunnel engine.machine) time) engine.stations stations → Done engine time (after (quantum_end (wind_tunnel engine.machine) time) stations)
     advanced stations = at_time (λ t. HaveAdvanced (quantum_end (wind_tunnel engine.machine) t) engine.stations stations → Done engine t (after (quantum_end (wind_tunnel engine.machine) t) stations)) each
@@ -82,9 +90,69 @@ written n xs ys e = ap (λ k. take k (xs ++ ys)) (sym e) ∙ take-append_seam xs
 
 pub gone_on : (view now : EngineModel) → view ≡ now → IsRunning view → (time until : ℕ) → earliest_of view.stations ≡ Some time → until ≡ quantum_end (wind_tunnel view.machine) time →
     (new written_to : List StationModel) → HaveExchanged until view.stations new → written_to ≡ new →
-    Done now time (record { machine = view.machine; stations = written_to; kept_end = until; quanta = view.quanta + 1; broken = false })
+    Done now time (record { machine = view.machine; threaded = view.threaded; stations = written_to; kept_end = until; quanta = view.quanta + 1; broken = false })
 gone_on view now same running time until first end new written_to have is =
-    subst (λ e. Done e time (record { machine = view.machine; stations = written_to; kept_end = until; quanta = view.quanta + 1; broken = false })) same
-    (subst (λ ss. Done view time (record { machine = view.machine; stations = ss; kept_end = until; quanta = view.quanta + 1; broken = false })) (sym is)
-    (subst (λ u. Done view time (record { machine = view.machine; stations = new; kept_end = u; quanta = view.quanta + 1; broken = false })) (sym end)
+    subst (λ e. Done e time (record { machine = view.machine; threaded = view.threaded; stations = written_to; kept_end = until; quanta = view.quanta + 1; broken = false })) same
+    (subst (λ ss. Done view time (record { machine = view.machine; threaded = view.threaded; stations = ss; kept_end = until; quanta = view.quanta + 1; broken = false })) (sym is)
+    (subst (λ u. Done view time (record { machine = view.machine; threaded = view.threaded; stations = new; kept_end = u; quanta = view.quanta + 1; broken = false })) (sym end)
     (advanced view running time first new (exchanged view running time first new (subst (λ u. HaveExchanged u view.stations new) end have)))))
+
+-- ---- what a call for a round has come to
+
+pub ended : (view now : EngineModel) → view ≡ now → IsRunning view → IsUnbroken view → earliest_of view.stations ≡ None → GoesRound now now (Ok Ended)
+ended view now same running whole none = subst (λ (e : EngineModel). GoesRound e e (Ok Ended)) same (record {
+  serial = stays view running;
+  round = over view running none;
+  end = refl;
+  bound = events_bound view running;
+  no_past = no_past view running;
+  unbroken = (whole, whole);
+  machine = refl;
+  broken = tt;
+})
+
+pub went : (now after : EngineModel) (time : ℕ) → Done now time after → IsUnbroken now → IsUnbroken after → after.machine ≡ now.machine → GoesRound now after (Ok More)
+went now after time is whole still machine = record {
+  serial = is.serial;
+  round = is.quantum;
+  end = is.same_end;
+  bound = events_bound after is.running;
+  no_past = no_past after is.running;
+  unbroken = (whole, still);
+  machine = machine;
+  broken = tt;
+}
+
+-- An engine whose quantum was run by threads.
+abbrev pub with_thread : EngineModel → EngineModel
+with_thread engine = record {
+  machine = engine.machine;
+  stations = engine.stations;
+  kept_end = engine.kept_end;
+  quanta = engine.quanta;
+  threaded = engine.threaded + 1;
+  broken = engine.broken;
+}
+
+pub by_threads : (now after : EngineModel) (time : ℕ) → IsRunning now → after.threaded ≡ now.threaded → Done now time after → Done now time (with_thread after)
+by_threads now after time running same is = record {
+  running = record {
+    numbers = is.running.numbers;
+    stations = is.running.stations;
+    world = is.running.world;
+    between = is.running.between;
+    counted = is.running.counted;
+    threads = let t = running.threads in let g = is.quantum.grows in omega (arith, same, t, g);
+  };
+  serial = is.serial;
+  quantum = record { time = is.quantum.time; next = is.quantum.next; kept_end = is.quantum.kept_end; quanta = is.quantum.quanta; none_left = is.quantum.none_left; grows = is.quantum.grows };
+  same_end = is.same_end;
+}
+
+-- An engine counts few rounds of threads.
+pub few_threads : (engine : EngineModel) → IsRunning engine → engine.threaded ≤ 2 ^ 45
+few_threads engine running =
+    let bound = events_bound engine running in
+    let threads = running.threads in
+    let few = few_times engine running engine.machine.nodes engine.machine.event_limit running.numbers.nodes.at_most running.numbers.event_limit.at_most in
+    omega arith

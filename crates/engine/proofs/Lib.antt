@@ -1,6 +1,7 @@
 pub mod Places
 pub mod Deliveries
 pub mod Runs
+pub mod Halves
 pub mod Owned
 pub mod Letters
 pub mod Merges

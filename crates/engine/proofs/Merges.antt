@@ -89,7 +89,7 @@ module _ (machine : MachineParts) where
       delivered_given letters (changed_at letter.to (accept_of letter) xs) (subst (IsNumbered (wind_tunnel machine) 0) (sym (nodes_changed letter.to letter xs)) numbered)
       ∙ one_given letter letters letter.to 0 xs numbered (omega arith)
 
-  numbered_length : (from : ℕ) (xs : List StationModel) → IsNumbered (wind_tunnel machine) from (nodes_of xs) → from + length xs ≡ machine.nodes
+  pub numbered_length : (from : ℕ) (xs : List StationModel) → IsNumbered (wind_tunnel machine) from (nodes_of xs) → from + length xs ≡ machine.nodes
   numbered_length from [] numbered = omega (arith, numbered)
   numbered_length from (x ∷ xs) numbered = let rest = numbered_length (suc from) xs numbered.1 in omega arith
 
@@ -216,7 +216,7 @@ module _ (engine : EngineModel) (running : IsRunning engine) (key : Key) (event 
     is_world = from_world sim (IsNode engine.machine) (Fits engine.machine) (laws engine running) (world_of engine) after running.world
         (round_is_serial sim (IsNode engine.machine) (Fits engine.machine) (laws engine running) (wind engine running).quanta (world_of engine) key event running.world running.between is).serial
 
-    pub world_is : world_of (record { machine = engine.machine; stations = stations; kept_end = end; quanta = engine.quanta + 1; broken = false }) ≡ after
+    pub world_is : world_of (record { machine = engine.machine; threaded = engine.threaded; stations = stations; kept_end = end; quanta = engine.quanta + 1; broken = false }) ≡ after
     world_is =
         (λ i. record {
           nodes = (sym (map_map (λ (t : Station NodeState Msg). t.node) station_of stations) ∙ ap (map (λ (t : Station NodeState Msg). t.node)) stations_are) i;

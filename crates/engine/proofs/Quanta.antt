@@ -67,7 +67,7 @@ module _ (engine : EngineModel) (running : IsRunning engine) (key : Key) (event 
 
   module _ (stations : List StationModel) (have : HaveAdvanced end engine.stations stations) where
     abbrev after : EngineModel
-    after = record { machine = engine.machine; stations = stations; kept_end = end; quanta = engine.quanta + 1; broken = false }
+    after = record { machine = engine.machine; threaded = engine.threaded; stations = stations; kept_end = end; quanta = engine.quanta + 1; broken = false }
 
     serial_round : IsSerialRound sim (world_of engine) (world_of after)
     serial_round = subst (IsSerialRound sim (world_of engine)) (sym (world_is engine running key event is stations have))
@@ -100,6 +100,7 @@ module _ (engine : EngineModel) (running : IsRunning engine) (key : Key) (event 
       world = world_after;
       between = serial_round.none_left;
       counted = let c = running.counted in let g = grows in omega arith;
+      threads = let t = running.threads in let g = grows in omega arith;
     }
 
     pub done : Done engine key.time after

@@ -15,13 +15,14 @@ use Rattle.node.specs.Laws.{Fits}
 use Rattle.quantum.specs.Stations.{StationModel, IsLive, machine_of, IsUnbroken as IsWholeStation}
 use Rattle.quantum.specs.World.{World}
 
--- the stations of a machine, the end of the last quantum that was begun and the count of quanta, and whether memory was
--- refused
+-- the stations of a machine, the end of the last quantum that was begun, the count of quanta and how many of these were
+-- run by threads, and whether memory was refused
 pub record EngineModel : Type 0 where
   pub machine : MachineParts
   pub stations : List StationModel
   pub kept_end : ℕ
   pub quanta : ℕ
+  pub threaded : ℕ
   pub broken : Bool
 
 abbrev pub sim_of : EngineModel → Simulation NodeState Msg
@@ -64,6 +65,7 @@ pub record IsRunning (engine : EngineModel) : Type 0 where
   pub world : IsWorld (sim_of engine) (IsNode engine.machine) (Fits engine.machine) (world_of engine)
   pub between : IsBetweenQuanta (sim_of engine) (world_of engine)
   pub counted : engine.quanta ≤ events_so_far engine
+  pub threads : engine.threaded ≤ events_so_far engine
 
 abbrev pub IsSoundEngine : EngineModel → Type 0
 IsSoundEngine engine = IsUnbroken engine → IsRunning engine

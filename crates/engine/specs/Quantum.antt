@@ -1,5 +1,5 @@
 -- The parts of a quantum: when the next event is, the runs of the stations, and the exchange of what they sent. Own.
-use Rattle.std.specs.Prelude.{◌≡◌, ⊤, ℕ, ◌<◌, ◌==◌, suc, zero, min, false, List, [], ◌∷◌, ◌++◌, length, map, flat_map, Option, Some, None, if◌then◌else◌}
+use Rattle.std.specs.Prelude.{◌≡◌, ⊤, ℕ, ◌^◌, ◌<◌, ◌≤◌, ◌==◌, suc, zero, min, false, List, [], ◌∷◌, ◌++◌, length, map, flat_map, Option, Some, None, if◌then◌else◌}
 use Rattle.std.specs.List.{All}
 use Rattle.wt_proto.specs.declared.message.Msg.{Msg}
 use Rattle.wt_proto.specs.declared.message.Stamped.{Stamped}
@@ -43,6 +43,18 @@ AreHandedOut until [] letters = letters ≡ []
 AreHandedOut until (station ∷ stations) letters =
     (outs rest : List Stamped) × IsHandedOut until station (ran_to until station) outs
     × AreHandedOut until stations rest × (letters ≡ outs ++ rest)
+
+-- the stations of a machine, or of a part of it, may run up to a time
+pub record MayRun (until : ℕ) (stations : List StationModel) : Type 0 where
+  pub few : length stations < 2 ^ 32
+  pub budget : All (λ station. until ≤ (machine_of station).budget) stations
+  pub forward : All (λ station. station.until ≤ until) stations
+
+-- they have, and handed out messages
+pub record HaveRun (until : ℕ) (before after : List StationModel) (letters : List Stamped) : Type 0 where
+  pub ran : after ≡ map (ran_to until) before
+  pub outs : AreHandedOut until before letters
+  pub good : All IsGood after
 
 -- stations of which one, by its place, has changed
 abbrev pub changed_at : ℕ → (StationModel → StationModel) → List StationModel → List StationModel

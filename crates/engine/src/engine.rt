@@ -1,5 +1,5 @@
 ghost use Rattle.std.specs.Prelude.{◌≡◌, ◌<◌, ◌≤◌, ◌*◌, true, All, IfOk, OnErr, OnOk, length};
-ghost use Rattle.discrete_events.specs.Laws.{IsSerialFrom};
+ghost use Rattle.discrete_events.specs.Round.{quantum_end};
 ghost use Rattle.discrete_events.specs.Serial.{final};
 ghost use Rattle.image_loader.specs.Images.{IsFor};
 ghost use Rattle.node.specs.React.{wind_tunnel};
@@ -7,16 +7,20 @@ ghost use Rattle.quantum.specs.Outcome.{head_of};
 ghost use Rattle.quantum.specs.Stations.{HasNoPast};
 ghost use Rattle.quantum.specs.World.{start_of};
 ghost use Rattle.engine.specs.Engine.{IsRunning, IsStationOf, IsUnbroken, events_so_far, sim_of, world_of};
-ghost use Rattle.engine.specs.Rounds.{WentRound};
+ghost use Rattle.engine.specs.Rounds.{GoesRound, threaded_after};
 
 use crate::head::head;
-use crate::stations::{advance, earliest, run_sole};
+use crate::parts::{advance, advance_by_workers};
+use crate::stations::{earliest, run_sole};
 use event_queue::Steps;
+use gate::Gate;
 use image_loader::Loaded;
 use quantum::{Quanta, Station};
 use std::alloc::Global;
 use std::marker::{Brand, Model};
+use std::sync::Wait;
 use std::sync::ledger::{Blank, Ledger};
+use std::thread::Threads;
 use wt_params::{Machine, NoMemory};
 use wt_stats::Head;
 
@@ -31,6 +35,8 @@ pub struct Engine {
     kept_end: u64,
     /// How many quanta were begun.
     quanta: u64,
+    /// How many of these were run by threads.
+    threaded: u64,
     broken: bool,
 }
 
@@ -48,6 +54,7 @@ impl Model for Engine {
       stations = engine.stations.items;
       kept_end = engine.kept_end;
       quanta = engine.quanta;
+      threaded = engine.threaded;
       broken = engine.broken;
     } };
 
@@ -56,6 +63,7 @@ impl Model for Engine {
       stations = engine.stations.items;
       kept_end = engine.kept_end;
       quanta = engine.quanta;
+      threaded = engine.threaded;
       broken = engine.broken;
     }) };
 }
@@ -94,6 +102,7 @@ impl Engine {
             stations,
             kept_end: 0,
             quanta: 0,
+            threaded: 0,
             broken: false,
         })
     }
@@ -101,14 +110,8 @@ impl Engine {
     /// Does one quantum on the calling thread: every node runs on its own from the least event on, up to the end of the
     /// quantum that it begins, and then they exchange their messages.
     pub fn round_plain(&mut self) -> Result<Round, NoMemory>
-        ensures serial { OnOk result (IsSerialFrom (sim_of self.old) (world_of self.old) (world_of self.new)) }
-        ensures round { IfOk result (WentRound self.old self.new) }
-        ensures end { OnOk result (final (sim_of self.old) (world_of self.new) ≡ final (sim_of self.old) (world_of self.old)) }
-        ensures bound { OnOk result (events_so_far self.new ≤ self.new.machine.nodes * self.new.machine.event_limit) }
-        ensures no_past { OnOk result (All HasNoPast self.new.stations) }
-        ensures unbroken { OnOk result (IsUnbroken self.old × IsUnbroken self.new) }
-        ensures machine { self.new.machine ≡ self.old.machine }
-        ensures broken { OnErr result (self.new.broken ≡ true) }
+        ensures goes { GoesRound self.old self.new result }
+        ensures threaded { self.new.threaded ≡ self.old.threaded }
     {
         self.round_counted::<Brand>(Blank::new(1))
     }
@@ -118,14 +121,8 @@ impl Engine {
         requires name { blank.name ≡ L.name }
         requires parts { blank.parts ≡ L.parts }
         requires some { 0 < blank.parts }
-        ensures serial { OnOk result (IsSerialFrom (sim_of self.old) (world_of self.old) (world_of self.new)) }
-        ensures round { IfOk result (WentRound self.old self.new) }
-        ensures end { OnOk result (final (sim_of self.old) (world_of self.new) ≡ final (sim_of self.old) (world_of self.old)) }
-        ensures bound { OnOk result (events_so_far self.new ≤ self.new.machine.nodes * self.new.machine.event_limit) }
-        ensures no_past { OnOk result (All HasNoPast self.new.stations) }
-        ensures unbroken { OnOk result (IsUnbroken self.old × IsUnbroken self.new) }
-        ensures machine { self.new.machine ≡ self.old.machine }
-        ensures broken { OnErr result (self.new.broken ≡ true) }
+        ensures goes { GoesRound self.old self.new result }
+        ensures threaded { self.new.threaded ≡ self.old.threaded }
     {
         if self.broken {
             return Err(NoMemory);
@@ -134,12 +131,78 @@ impl Engine {
         let Some(time) = earliest(&self.stations, &mut steps) else {
             return Ok(Round::Ended);
         };
-        let until = (time + self.machine.quantum()).min(self.machine.budget());
+        let until = self.quantum_end(time);
         // What is half done isn't to be used, should memory be refused.
         self.broken = true;
         advance(self.alloc, &mut self.stations, until, &mut steps)?;
         self.kept_end = until;
         self.quanta += 1;
+        self.broken = false;
+        Ok(Round::More)
+    }
+
+    /// The end of the quantum that an event of this time begins.
+    fn quantum_end(&self, time: u64) -> u64
+        requires unbroken { IsUnbroken self.now }
+        requires early { time < self.now.machine.budget }
+        ensures { result ≡ quantum_end (sim_of self.now) time }
+    {
+        (time + self.machine.quantum()).min(self.machine.budget())
+    }
+
+    /// Does one quantum by so many workers, each with its part of the stations, in threads of the host. Each worker
+    /// passes the gate once, when its part begins.
+    pub fn round<R: Threads + Wait + Sync, G: Gate + Sync>(
+        &mut self,
+        rt: &R,
+        workers: u32,
+        gate: &G,
+    ) -> Result<Round, NoMemory>
+        requires workers { (1 ≤ workers) × (workers ≤ 16) }
+        ensures goes { GoesRound self.old self.new result }
+        ensures threaded { IfOk result (λ round. self.new.threaded ≡ threaded_after round self.old.threaded) }
+    {
+        self.round_threaded::<Brand, R, G>(Blank::new(1), rt, workers, gate)
+    }
+
+    /// The same, with the steps of the queues counted in a ledger.
+    fn round_threaded<L: Ledger, R: Threads + Wait + Sync, G: Gate + Sync>(
+        &mut self,
+        blank: Blank,
+        rt: &R,
+        workers: u32,
+        gate: &G,
+    ) -> Result<Round, NoMemory>
+        requires name { blank.name ≡ L.name }
+        requires parts { blank.parts ≡ L.parts }
+        requires some { 0 < blank.parts }
+        requires workers { workers ≤ 16 }
+        ensures goes { GoesRound self.old self.new result }
+        ensures threaded { IfOk result (λ round. self.new.threaded ≡ threaded_after round self.old.threaded) }
+    {
+        if self.broken {
+            return Err(NoMemory);
+        }
+        let mut steps = Steps::<L>::new(blank);
+        let Some(time) = earliest(&self.stations, &mut steps) else {
+            return Ok(Round::Ended);
+        };
+        let until = self.quantum_end(time);
+        let (alloc, round) = (self.alloc, self.quanta);
+        self.broken = true;
+        advance_by_workers(
+            rt,
+            alloc,
+            gate,
+            round,
+            workers,
+            &mut self.stations,
+            until,
+            &mut steps,
+        )?;
+        self.kept_end = until;
+        self.quanta += 1;
+        self.threaded += 1;
         self.broken = false;
         Ok(Round::More)
     }
@@ -187,6 +250,13 @@ impl Engine {
         self.quanta = quanta.count;
         self.broken = false;
         Ok(())
+    }
+
+    /// How many quanta were run by threads: the calls of `round` that found an event.
+    pub fn threaded(&self) -> u64
+        ensures { result ≡ self.now.threaded }
+    {
+        self.threaded
     }
 
     /// What the run has come to.

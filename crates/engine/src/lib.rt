@@ -6,6 +6,7 @@
 
 mod engine;
 mod head;
+mod parts;
 mod stations;
 
 pub use self::engine::{Engine, Round};

@@ -1,7 +1,7 @@
-ghost use Rattle.std.specs.Prelude.{◌≡◌, ◌≤◌, ◌++◌, All, map, IfOk, OnOk};
-ghost use Rattle.quantum.specs.Stations.{IsUnbroken, machine_of};
+ghost use Rattle.std.specs.Prelude.{◌≡◌, ◌++◌, All, IfOk, OnOk};
+ghost use Rattle.quantum.specs.Stations.{IsUnbroken};
 ghost use Rattle.engine.specs.Sole.{AreSole, HaveEnded};
-ghost use Rattle.engine.specs.Quantum.{AreHandedOut, HaveExchanged, IsGood, MayDeliver, MayExchange, delivered, earliest_of, ran_to, sooner};
+ghost use Rattle.engine.specs.Quantum.{HaveRun, IsGood, MayDeliver, MayRun, delivered, earliest_of, sooner};
 
 use event_queue::Steps;
 use quantum::{Outs, Quanta, Station};
@@ -32,35 +32,16 @@ fn lesser(one: Option<u64>, other: Option<u64>) -> Option<u64>
     }
 }
 
-/// Every station runs on its own up to a time, and then they are given what they have sent to each other.
-pub fn advance<L: Ledger>(
-    alloc: Global,
-    stations: &mut [Station],
-    until: u64,
-    steps: &mut Steps<L>,
-) -> Result<(), NoMemory>
-    requires budget { All (λ station. until ≤ (machine_of station).budget) stations.old }
-    requires forward { All (λ station. station.until ≤ until) stations.old }
-    requires may { MayExchange until stations.old }
-    ensures { OnOk result (HaveExchanged until stations.old stations.new) }
-{
-    let letters = run_all(alloc, stations, until, steps)?;
-    deliver(stations, letters, steps)
-}
-
 /// Every station runs on its own up to a time. What they send to each other is handed out, in the order of the
 /// stations.
-fn run_all<L: Ledger>(
+pub fn run_all<L: Ledger>(
     alloc: Global,
     stations: &mut [Station],
     until: u64,
     steps: &mut Steps<L>,
 ) -> Result<StampedList, NoMemory>
-    requires budget { All (λ station. until ≤ (machine_of station).budget) stations.old }
-    requires forward { All (λ station. station.until ≤ until) stations.old }
-    ensures ran { OnOk result (stations.new ≡ map (ran_to until) stations.old) }
-    ensures outs { IfOk result (AreHandedOut until stations.old) }
-    ensures good { OnOk result (All IsGood stations.new) }
+    requires may { MayRun until stations.old }
+    ensures { IfOk result (HaveRun until stations.old stations.new) }
 {
     let mut letters = StampedList::new(alloc);
     for station in stations.iter_mut() {
@@ -71,7 +52,7 @@ fn run_all<L: Ledger>(
 }
 
 /// Puts messages at the end of a list.
-fn append(letters: &mut StampedList, outs: Outs) -> Result<(), NoMemory>
+pub fn append(letters: &mut StampedList, outs: Outs) -> Result<(), NoMemory>
     ensures { OnOk result (letters.new ≡ letters.old ++ outs) }
 {
     if outs.is_empty() {
@@ -85,7 +66,7 @@ fn append(letters: &mut StampedList, outs: Outs) -> Result<(), NoMemory>
 }
 
 /// Gives each message to the station that it names.
-fn deliver<L: Ledger>(
+pub fn deliver<L: Ledger>(
     stations: &mut [Station],
     letters: StampedList,
     steps: &mut Steps<L>,
