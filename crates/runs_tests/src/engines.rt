@@ -1,7 +1,12 @@
+ghost use Rattle.std.specs.Prelude.{◌≤◌};
+
 use engine::{Engine, Round};
+use gate::{Gate, MeetGate, OpenGate};
 use std::alloc::Global;
 use std::process::Abort;
+use std::sync::Wait;
 use std::test::Fail;
+use std::thread::Threads;
 use test_machines::small_parts;
 use test_programs::programs;
 use wt_params::Machine;
@@ -61,6 +66,26 @@ fn play_on(rt: &impl Abort, alloc: Global, case: Case) -> Result<(), Fail> {
     Ok(())
 }
 
+/// Plays it by so many workers.
+fn play_by<R: Abort + Threads + Wait + Sync, G: Gate + Sync>(
+    rt: &R,
+    alloc: Global,
+    case: Case,
+    workers: u32,
+    gate: &G,
+) -> Result<(), Fail>
+    requires { (1 ≤ workers) × (workers ≤ 16) }
+{
+    let mut engine = engine_of(alloc, case)?;
+    for _ in case.rounds {
+        assert!(rt; engine.round(rt, workers, gate)? == Round::More);
+    }
+    assert!(rt; engine.round(rt, workers, gate)? == Round::Ended);
+    assert!(rt; engine.threaded() == case.rounds.len() as u64);
+    assert!(rt; engine.head() == case.head);
+    Ok(())
+}
+
 /// Node 1 reads a block whose home is node 0: it comes at the very end of a quantum.
 const READS: Case = Case {
     nodes: 2,
@@ -83,4 +108,28 @@ const READS: Case = Case {
 fn a_machine_round_by_round_and_by_one_call(rt: HostRuntime) -> Result<(), Fail> {
     play(&rt, rt.alloc(), READS)?;
     play_on(&rt, rt.alloc(), READS)
+}
+
+#[test]
+fn one_or_several_workers(rt: HostRuntime) -> Result<(), Fail> {
+    play_by(&rt, rt.alloc(), READS, 1, &OpenGate)?;
+    play_by(&rt, rt.alloc(), READS, 16, &OpenGate)
+}
+
+#[test]
+fn two_workers_meet_in_each_round(rt: HostRuntime) -> Result<(), Fail> {
+    let gate = MeetGate::new(100_000_000);
+    assert!(rt; !gate.met());
+    play_by(&rt, rt.alloc(), READS, 2, &gate)?;
+    assert!(rt; gate.met());
+    Ok(())
+}
+
+#[test]
+fn one_thread_meets_nobody(rt: HostRuntime) -> Result<(), Fail> {
+    let gate = MeetGate::new(10);
+    gate.pass(0, 1);
+    gate.pass(0, 2);
+    assert!(rt; !gate.met());
+    Ok(())
 }
