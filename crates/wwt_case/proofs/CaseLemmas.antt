@@ -15,7 +15,9 @@ use Rattle.machine_json.specs.declared.description.ImageSpec.{ImageSpec}
 use Rattle.machine_json.specs.declared.description.ImageSpec.TheVariants.{Bytes, File}
 use Rattle.wwt_words.specs.declared.command.Command.{Command}
 use Rattle.wwt_words.specs.declared.command.Command.TheVariants as commands
-use Rattle.wwt_words.specs.Words.{command_of}
+use Rattle.wwt_words.specs.declared.command.WordFault.{WordFault}
+use Rattle.wwt_words.specs.declared.command.WordFault.TheVariants as word_faults
+use Rattle.wwt_words.specs.Words.{command_of, Reads as Calls}
 use Rattle.gen_load.specs.Generated.{generated}
 use Rattle.wt_outside.specs.Views.{StoreView}
 use Rattle.wwt_case.specs.declared.job.Described.{Described}
@@ -160,8 +162,8 @@ module _ (command : Command) (workers : ℕ) where
       usage_as is
       ∙ ap (λ (one : Bool). is_usage (cond one (generated_plan number) (Give (Err refusals.Usage)))) (ne_eqb workers 1 many)
 
-pub none_refused : {A B : Type 0} {plan : Plan A} → is_usage plan ≡ false → is_usage plan ≡ true → B
-none_refused none usage = absurd (false≢true (sym none ∙ usage))
+pub none_refused : {A B : Type 0} (plan : Plan A) → is_usage plan ≡ false → is_usage plan ≡ true → B
+none_refused plan none usage = absurd (false≢true (sym none ∙ usage))
 
 module _ {S A : Type 0} {plan : Plan A} where
   -- a plan that isn't refused as the words are answers otherwise
@@ -169,14 +171,14 @@ module _ {S A : Type 0} {plan : Plan A} where
   accepts old new (Ok value) none other = record {
     accepted = none;
     usage = λ same. cc;
-    refused = none_refused none;
-    unread = none_refused none;
+    refused = none_refused plan none;
+    unread = none_refused plan none;
   }
   accepts old new (Err refusal) none other = record {
     accepted = tt;
     usage = λ same. let is : refusal ≡ refusals.Usage = cc in absurd (subst IsOtherRefusal is other);
-    refused = none_refused none;
-    unread = none_refused none;
+    refused = none_refused plan none;
+    unread = none_refused plan none;
   }
 
   -- one that is says so at once
@@ -193,5 +195,6 @@ usage_of_words words command old new result is answer =
     subst (λ (c : Option Command). AnswersUsage (command_plan c) old new result) (sym is) answer
 
 -- words of no command are refused
-pub refuses_words : {S : Type 0} (words : List (List ℕ)) (s : S) → command_of words ≡ None → AnswersUsage (command_plan (command_of words)) s s (Err refusals.Usage)
-refuses_words words s none = refuses s (ap (λ (c : Option Command). is_usage (command_plan c)) none)
+pub refuses_words : {S : Type 0} (words : List (List ℕ)) (s : S) (fault : WordFault) → fault ≡ word_faults.Usage → Calls {T = Command} (command_of words) (Err fault) → AnswersUsage (command_plan (command_of words)) s s (Err refusals.Usage)
+refuses_words words s fault is none =
+    refuses s (ap (λ (c : Option Command). is_usage (command_plan c)) (subst (λ (f : WordFault). Calls {T = Command} (command_of words) (Err f)) is none))

@@ -14,7 +14,7 @@ returns-in-Ok-clause-usage g c =
     usage_of_words _ c.in-Ok.command _ _ c.prepare_command.result c.in-Ok.ensures c.prepare_command.ensures.usage
 
 pub returns-in-Err-Usage-clause-usage : goal.returns-in-Err-Usage-clause-usage
-returns-in-Err-Usage-clause-usage g c = refuses_words _ _ c.in-Err-Usage.ensures
+returns-in-Err-Usage-clause-usage g c = refuses_words _ _ c.in-Err-Usage.field-0 c.in-Err-Usage.field-0-is c.in-Err-Usage.ensures
 
 pub returns-in-Err-NoMemory-clause-usage : goal.returns-in-Err-NoMemory-clause-usage
 returns-in-Err-NoMemory-clause-usage g c = refuses_memory _

@@ -48,7 +48,7 @@ returns-then-workers-eq1-2-clause-usage g c =
 
 pub returns-then-workers-eq1-2-clause-refused : goal.returns-then-workers-eq1-2-clause-refused
 returns-then-workers-eq1-2-clause-refused g c =
-    none_refused (no_usage_of_load _ c.in-Load.workers c.in-Load.number c.in-Load.is c.if-workers-eq1-2.true)
+    none_refused _ (no_usage_of_load _ c.in-Load.workers c.in-Load.number c.in-Load.is c.if-workers-eq1-2.true)
 
 pub returns-else-workers-eq1-2-clause-usage : goal.returns-else-workers-eq1-2-clause-usage
 returns-else-workers-eq1-2-clause-usage g c =

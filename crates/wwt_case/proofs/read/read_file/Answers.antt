@@ -20,10 +20,10 @@ pub returns-in-Err-TooLong-clause-read : goal.returns-in-Err-TooLong-clause-read
 returns-in-Err-TooLong-clause-read g c =
     file_read c.args.name c.args.kind _ _ _ _
     (other_read c.args.name c.args.kind _ _ _ _ _ (search rules) (search rules) (search rules) c.get.ensures c.in-Err-TooLong.ensures.asked
-    c.in-Err-TooLong.ensures.steady c.in-Err-TooLong.ensures.files)
+    (search rules) c.in-Err-TooLong.ensures.files)
 
 pub returns-in-Err-NoMemory-clause-read : goal.returns-in-Err-NoMemory-clause-read
 returns-in-Err-NoMemory-clause-read g c =
     file_read c.args.name c.args.kind _ _ _ _
     (other_read c.args.name c.args.kind _ _ _ _ _ (λ other same. cc) (search rules) (search rules) c.get.ensures c.in-Err-NoMemory.ensures.asked
-    c.in-Err-NoMemory.ensures.steady c.in-Err-NoMemory.ensures.files)
+    (search rules) c.in-Err-NoMemory.ensures.files)
