@@ -1,1 +1,2 @@
 mod FirstFault
+pub mod SizeLemmas

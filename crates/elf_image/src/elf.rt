@@ -1,7 +1,7 @@
 ghost use Rattle.std.specs.Prelude.{◌≡◌, ◌≤◌, ◌+◌, ◌⊎◌, length, filter, map, All, IfOk, IfErr, OnOk, Some, None};
 ghost use Rattle.std.specs.List.{list_any};
 ghost use Rattle.elf_image.specs.Elf.{elf_of, program_tests, first_fault, headers_of, is_loaded, is_dynamic_header, is_outside, is_less, IsInside, HasRoom, segment_of};
-ghost use Rattle.elf_image.specs.Sizes.{FitsItsSize, HoldsItsBytes};
+ghost use Rattle.elf_image.specs.Sizes.{FitsItsSize, HoldsItsBytes, bytes_in, most_bytes};
 
 use crate::fault::ImageFault;
 use crate::header::{E_ENTRY, check_header, read_program_headers};
@@ -19,6 +19,7 @@ pub fn read_elf(alloc: Global, bytes: &[u8]) -> Result<Image, ImageFault>
     ensures ok { IfOk result (λ image. elf_of bytes.now ≡ Ok image) }
     ensures fault { IfErr result (λ fault. (fault ≡ ImageFault.NoMemory) ⊎ (elf_of bytes.now ≡ Err fault)) }
     ensures sizes { IfOk result HoldsItsBytes }
+    ensures most { IfOk result (λ image. bytes_in image.segments ≤ most_bytes) }
 {
     check_header(bytes)?;
     let headers = read_program_headers(alloc, bytes)?;
@@ -91,6 +92,7 @@ fn load_segments(
     requires sizes { All HasRoom headers.now }
     ensures value { IfOk result (λ segments. segments.items ≡ map (segment_of bytes.now) (filter is_loaded headers.now)) }
     ensures sizes { IfOk result (λ segments. All FitsItsSize segments.items) }
+    ensures most { IfOk result (λ segments. bytes_in segments.items ≤ most_bytes) }
 {
     let mut segments = Vec::new(alloc);
     let mut room = MOST_BYTES;
@@ -111,6 +113,7 @@ fn load_segment(alloc: Global, header: &ProgramHeader, bytes: &[u8]) -> Result<S
     requires size { header.now.file_bytes ≤ header.now.memory_bytes }
     ensures value { IfOk result (λ segment. segment ≡ segment_of bytes.now header.now) }
     ensures size { IfOk result FitsItsSize }
+    ensures bytes { IfOk result (λ segment. length segment.bytes ≡ header.now.file_bytes) }
 {
     let start = header.offset as usize;
     let end = start + header.file_bytes as usize;

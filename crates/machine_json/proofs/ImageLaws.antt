@@ -6,7 +6,7 @@ use Rattle.serde_json.specs.Data.{Data, Items, item}
 use Rattle.serde_json.specs.Find.{get}
 use Rattle.machine_json.specs.declared.description.ImageSpec.{ImageSpec}
 use Rattle.machine_json.specs.declared.fault.MachineFault.{MachineFault}
-use Rattle.machine_json.specs.Answers.{IsRefusalOf, and_then, unless}
+use Rattle.machine_json.specs.Answers.{IsRefusalOf, ◌>>◌, ◌>>=◌}
 use Rattle.machine_json.specs.Images.{image_of, image_from, images_from, entry_fault}
 use Rattle.machine_json.proofs.FaultLaws.{refusal_of_step}
 
@@ -15,7 +15,7 @@ Images = Result (List ImageSpec) MachineFault
 
 -- the images so far, and then the rest
 abbrev pub after : List ImageSpec → Images → Images
-after images rest = and_then rest (λ more. Ok (images ++ more))
+after images rest = rest >>= λ more. Ok (images ++ more)
 
 pub after-nothing : (rest : Images) → after [] rest ≡ rest
 after-nothing (Ok more) = refl
@@ -25,7 +25,7 @@ pub after-all : (images : List ImageSpec) → after images (Ok []) ≡ Ok images
 after-all images = ap Ok (append-nil images)
 
 one_more : (images : List ImageSpec) (image : ImageSpec) (rest : Images) →
-    after images (and_then rest (λ more. Ok (image ∷ more))) ≡ after (images ++ image ∷ []) rest
+    after images (rest >>= λ more. Ok (image ∷ more)) ≡ after (images ++ image ∷ []) rest
 one_more images image (Ok more) = ap Ok (sym (append_assoc images (image ∷ []) more))
 one_more images image (Err fault) = refl
 
@@ -34,7 +34,7 @@ module _ (number : ℕ) (entry : Data) (entries : Items) (images : List ImageSpe
   pub after-image : (image : ImageSpec) → image_of number entry ≡ Ok image →
       after images (images_from number (item entry entries)) ≡ after (images ++ image ∷ []) (images_from (number + 1) entries)
   after-image image is =
-      ap (λ first. after images (and_then first (λ one. and_then (images_from (number + 1) entries) (λ more. Ok (one ∷ more))))) is
+      ap (λ first. after images (first >>= λ one. images_from (number + 1) entries >>= λ more. Ok (one ∷ more))) is
       ∙ one_more images image (images_from (number + 1) entries)
 
   -- an entry's refusal is that of the list
@@ -47,5 +47,5 @@ pub image_of-from : (i : ℕ) (entry : Data) (hex file : Option Data) → entry_
     hex ≡ get (codes "hex") entry → file ≡ get (codes "file") entry → image_of i entry ≡ image_from i entry hex file
 unfolding image_of
 image_of-from i entry hex file none hex_is file_is =
-    ap (λ fault. unless fault (image_from i entry (get (codes "hex") entry) (get (codes "file") entry))) none
+    ap (λ fault. fault >> image_from i entry (get (codes "hex") entry) (get (codes "file") entry)) none
     ∙ ap (λ h. image_from i entry h (get (codes "file") entry)) (sym hex_is) ∙ ap (λ f. image_from i entry hex f) (sym file_is)

@@ -12,11 +12,13 @@ abbrev pub IsRefusalOf : {A : Type 0} → Result A MachineFault → MachineFault
 IsRefusalOf wanted fault = (fault ≡ NoMemory) ⊎ (wanted ≡ Err fault)
 
 -- a fault, or else the rest
-abbrev pub unless : {A : Type 0} → Option MachineFault → Result A MachineFault → Result A MachineFault
-unless None rest = rest
-unless (Some fault) rest = Err fault
+infixl 10 ◌>>◌
+abbrev pub ◌>>◌ : {A : Type 0} → Option MachineFault → Result A MachineFault → Result A MachineFault
+None >> rest = rest
+Some fault >> rest = Err fault
 
 -- one step, and then another one with its value
-abbrev pub and_then : {A B : Type 0} → Result A MachineFault → (A → Result B MachineFault) → Result B MachineFault
-and_then (Ok value) next = next value
-and_then (Err fault) next = Err fault
+infixl 10 ◌>>=◌
+abbrev pub ◌>>=◌ : {A B : Type 0} → Result A MachineFault → (A → Result B MachineFault) → Result B MachineFault
+Ok value >>= next = next value
+Err fault >>= next = Err fault

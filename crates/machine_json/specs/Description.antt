@@ -9,7 +9,7 @@ use Rattle.machine_json.specs.declared.keys.Table.TheVariants as tables
 use Rattle.machine_json.specs.declared.description.Description.{Description}
 use Rattle.machine_json.specs.declared.fault.MachineFault.{MachineFault}
 use Rattle.machine_json.specs.declared.fault.MachineFault.TheVariants.{Syntax, NotObject, Unknown}
-use Rattle.machine_json.specs.Answers.{unless, and_then}
+use Rattle.machine_json.specs.Answers.{◌>>◌, ◌>>=◌}
 use Rattle.machine_json.specs.Table.{unknown_in, own_fields, cost_fields}
 use Rattle.machine_json.specs.Numbers.{parts_of, version_fault, fields_fault, costs_fault}
 use Rattle.machine_json.specs.Images.{images_of, IsPlaced}
@@ -45,12 +45,12 @@ numbers_fault description =
 
 -- what some data describe
 unfoldable pub description_in : Data → Result Description MachineFault
-description_in description =
-    unless (keys_fault description)
-    (unless (version_fault description)
-    (unless (numbers_fault description)
-    (and_then (images_of (parts_of description).nodes description)
-    (λ images. Ok (record { machine = parts_of description; images = images })))))
+description_in description = do
+  keys_fault description
+  version_fault description
+  numbers_fault description
+  images ← images_of (parts_of description).nodes description
+  Ok (record { machine = parts_of description; images = images })
 
 abbrev pub description_or_fault : Option Data → Result Description MachineFault
 description_or_fault None = Err Syntax

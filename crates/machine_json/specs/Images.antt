@@ -11,7 +11,7 @@ use Rattle.machine_json.specs.declared.description.ImageSpec.{ImageSpec}
 use Rattle.machine_json.specs.declared.description.ImageSpec.TheVariants.{Bytes, File}
 use Rattle.machine_json.specs.declared.fault.MachineFault.{MachineFault}
 use Rattle.machine_json.specs.declared.fault.MachineFault.TheVariants.{Unknown, Missing, Kind, Range, Hex}
-use Rattle.machine_json.specs.Answers.{unless, and_then}
+use Rattle.machine_json.specs.Answers.{◌>>◌, ◌>>=◌}
 use Rattle.machine_json.specs.Table.{images_key, unknown_in, whole_number}
 
 -- the key of an image, by its number, and of a member of it
@@ -74,18 +74,20 @@ bytes_or i (Err refused) = Err (Hex i)
 
 -- an image whose bytes stand in the description
 unfoldable pub hex_image : ℕ → Data → Data → Result ImageSpec MachineFault
-hex_image i entry hex =
-    and_then (text_of i (codes "hex") hex)
-    (λ text. unless (format_fault i entry)
-    (and_then (place_of i entry)
-    (λ place. and_then (bytes_or i (decode_of text)) (λ bytes. Ok (Bytes place bytes)))))
+hex_image i entry hex = do
+  text ← text_of i (codes "hex") hex
+  format_fault i entry
+  place ← place_of i entry
+  bytes ← bytes_or i (decode_of text)
+  Ok (Bytes place bytes)
 
 -- an image in a file
 unfoldable pub file_image : ℕ → Data → Data → Result ImageSpec MachineFault
-file_image i entry file =
-    and_then (text_of i (codes "file") file)
-    (λ name. and_then (is_elf_of i entry)
-    (λ elf. and_then (place_of i entry) (λ place. Ok (File name elf place))))
+file_image i entry file = do
+  name ← text_of i (codes "file") file
+  elf ← is_elf_of i entry
+  place ← place_of i entry
+  Ok (File name elf place)
 
 -- by the one of its two sources that is there
 abbrev pub image_from : ℕ → Data → Option Data → Option Data → Result ImageSpec MachineFault
@@ -104,14 +106,17 @@ entry_fault i entry = entry_members_fault i (as_object entry)
 
 -- an entry of the list, with its number
 unfoldable pub image_of : ℕ → Data → Result ImageSpec MachineFault
-image_of i entry =
-    unless (entry_fault i entry) (image_from i entry (get (codes "hex") entry) (get (codes "file") entry))
+image_of i entry = do
+  entry_fault i entry
+  image_from i entry (get (codes "hex") entry) (get (codes "file") entry)
 
 -- the entries in order, counted from a number on
 abbrev pub images_from : ℕ → Items → Result (List ImageSpec) MachineFault
 images_from i no_items = Ok []
-images_from i (item entry entries) =
-    and_then (image_of i entry) (λ image. and_then (images_from (i + 1) entries) (λ images. Ok (image ∷ images)))
+images_from i (item entry entries) = do
+  image ← image_of i entry
+  images ← images_from (i + 1) entries
+  Ok (image ∷ images)
 
 -- one image for all nodes, or one for each
 abbrev pub images_in : ℕ → Option Items → Result (List ImageSpec) MachineFault

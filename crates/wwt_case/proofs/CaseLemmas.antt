@@ -1,5 +1,6 @@
 -- What a job's parts read is what the job reads.
-use Rattle.std.proofs.Common.{◌≡◌, ℕ, ◌+◌, Bool, false, List, [], ◌∷◌, Option, Some, None, Result, Ok, Err, IfOk, ◌++◌, refl, sym, ap, ap₂, subst, ◌∙◌}
+use Rattle.std.proofs.Common.{◌≡◌, ◌≢◌, ℕ, ◌+◌, Bool, cond, false, List, [], ◌∷◌, Option, Some, None, Result, Ok, Err, ◌++◌, refl, sym, ap, ap₂, subst, ◌∙◌, inl, inr, true}
+use Rattle.std.proofs.lemmas.Bool.{false≢true, ne_eqb}
 use Rattle.elf_image.specs.declared.image.Image.{Image}
 use Rattle.elf_image.specs.Flat.{flat_image}
 use Rattle.image_loader.specs.Images.{LoadedImages, loaded_with}
@@ -14,7 +15,9 @@ use Rattle.machine_json.specs.declared.description.ImageSpec.{ImageSpec}
 use Rattle.machine_json.specs.declared.description.ImageSpec.TheVariants.{Bytes, File}
 use Rattle.wwt_words.specs.declared.command.Command.{Command}
 use Rattle.wwt_words.specs.declared.command.Command.TheVariants as commands
-use Rattle.wwt_words.specs.Words.{command_of}
+use Rattle.wwt_words.specs.declared.command.WordFault.{WordFault}
+use Rattle.wwt_words.specs.declared.command.WordFault.TheVariants as word_faults
+use Rattle.wwt_words.specs.Words.{command_of, Reads as Calls}
 use Rattle.gen_load.specs.Generated.{generated}
 use Rattle.wt_outside.specs.Views.{StoreView}
 use Rattle.wwt_case.specs.declared.job.Described.{Described}
@@ -25,8 +28,8 @@ use Rattle.wwt_case.specs.Files.{and_then}
 use Rattle.wwt_case.specs.Plan.{Plan, ◌>>=◌, is_usage}
 use Rattle.wwt_case.specs.Plan.Plan.{Give, Ask}
 use Rattle.wwt_case.specs.Programs.{image_plan, images_plan, loaded_or}
-use Rattle.wwt_case.specs.Case.{plan_of, is_usage_of, command_plan, check_plan, run_plan, generated_plan, described_plan, dis_plan, flat_plan, description_plan, description_or, load_of, loaded_machine, machine_plan, input_name, IsFlat}
-use Rattle.wwt_case.specs.Reading.{Answers, Reads}
+use Rattle.wwt_case.specs.Case.{command_plan, check_plan, run_plan, generated_plan, described_plan, dis_plan, flat_plan, description_plan, description_or, load_of, loaded_machine, machine_plan, input_name, IsFlat}
+use Rattle.wwt_case.specs.Reading.{Answers, AnswersUsage, IsOther, IsOtherRefusal, Reads}
 use Rattle.wwt_case.proofs.ReadLemmas.{plan_then, plan_stopped}
 
 -- the images of a description, from none on
@@ -83,7 +86,7 @@ of_flat command view old new result is read =
     subst (λ (c : Command). Reads (command_plan (Some c)) view old new result) (sym is) read
 
 -- the words of a command
-pub of_words : {S : Type 0} (words : List (List ℕ)) (command : Command) (view : StoreView S) (old new : S) (result : Result Job Refusal) → command_of words ≡ Some command → Reads (command_plan (Some command)) view old new result → Reads (plan_of words) view old new result
+pub of_words : {S : Type 0} (words : List (List ℕ)) (command : Command) (view : StoreView S) (old new : S) (result : Result Job Refusal) → command_of words ≡ Some command → Reads (command_plan (Some command)) view old new result → Reads (command_plan (command_of words)) view old new result
 of_words words command view old new result is read =
     subst (λ (c : Option Command). Reads (command_plan c) view old new result) (sym is) read
 
@@ -136,10 +139,62 @@ generated_no_usage number =
     (λ images. load_no_usage (loaded_with (generated number).machine images) (load_fault (generated number).machine 0 images) (λ loaded. record { machine = (generated number).machine; loaded = loaded })))
     (λ described. refl)
 
-pub no_usage_of_load : (command : Command) (number workers : ℕ) → command ≡ commands.Load number workers → workers ≡ 1 → is_usage_of (Some command) ≡ false
-no_usage_of_load command number workers is one =
-    ap (λ (c : Command). is_usage_of (Some c)) is ∙ ap (λ (n : ℕ). is_usage_of (Some (commands.Load number n))) one ∙ generated_no_usage number
+-- whether a command is refused, by what it is
+pub usage_as : {command other : Command} → command ≡ other → is_usage (command_plan (Some command)) ≡ is_usage (command_plan (Some other))
+usage_as is = ap (λ (c : Command). is_usage (command_plan (Some c))) is
 
-pub accepted_load : {A : Type 0} (result : Result A Refusal) (command : Command) → is_usage_of (Some command) ≡ false → IfOk result (λ _. is_usage_of (Some command) ≡ false)
-accepted_load (Ok value) command none = none
-accepted_load (Err refusal) command none = tt
+module _ (command : Command) (workers : ℕ) where
+  pub no_usage_of_run : (trace memory : Bool) (budget : Option ℕ) (machine : List ℕ) → command ≡ commands.Run workers trace memory budget machine → workers ≡ 1 → is_usage (command_plan (Some command)) ≡ false
+  no_usage_of_run trace memory budget machine is one =
+      usage_as is ∙ ap (λ (n : ℕ). is_usage (command_plan (Some (commands.Run n trace memory budget machine)))) one
+
+  pub no_usage_of_load : (number : ℕ) → command ≡ commands.Load number workers → workers ≡ 1 → is_usage (command_plan (Some command)) ≡ false
+  no_usage_of_load number is one =
+      usage_as is ∙ ap (λ (n : ℕ). is_usage (command_plan (Some (commands.Load number n)))) one ∙ generated_no_usage number
+
+  pub usage_of_run : (trace memory : Bool) (budget : Option ℕ) (machine : List ℕ) → command ≡ commands.Run workers trace memory budget machine → workers ≢ 1 → is_usage (command_plan (Some command)) ≡ true
+  usage_of_run trace memory budget machine is many =
+      usage_as is
+      ∙ ap (λ (one : Bool). is_usage (cond one (run_plan machine budget trace memory) (Give (Err refusals.Usage)))) (ne_eqb workers 1 many)
+
+  pub usage_of_load : (number : ℕ) → command ≡ commands.Load number workers → workers ≢ 1 → is_usage (command_plan (Some command)) ≡ true
+  usage_of_load number is many =
+      usage_as is
+      ∙ ap (λ (one : Bool). is_usage (cond one (generated_plan number) (Give (Err refusals.Usage)))) (ne_eqb workers 1 many)
+
+pub none_refused : {A B : Type 0} (plan : Plan A) → is_usage plan ≡ false → is_usage plan ≡ true → B
+none_refused plan none usage = absurd (false≢true (sym none ∙ usage))
+
+module _ {S A : Type 0} {plan : Plan A} where
+  -- a plan that isn't refused as the words are answers otherwise
+  pub accepts : (old new : S) (result : Result A Refusal) → is_usage plan ≡ false → IsOther result → AnswersUsage plan old new result
+  accepts old new (Ok value) none other = record {
+    accepted = none;
+    usage = λ same. cc;
+    refused = none_refused plan none;
+    unread = none_refused plan none;
+  }
+  accepts old new (Err refusal) none other = record {
+    accepted = tt;
+    usage = λ same. let is : refusal ≡ refusals.Usage = cc in absurd (subst IsOtherRefusal is other);
+    refused = none_refused plan none;
+    unread = none_refused plan none;
+  }
+
+  -- one that is says so at once
+  pub refuses : (s : S) → is_usage plan ≡ true → AnswersUsage plan s s (Err refusals.Usage)
+  refuses s usage = record { accepted = tt; usage = λ _. usage; refused = λ _. inl refl; unread = λ _. refl }
+
+  -- want of memory may come before
+  pub refuses_memory : (s : S) → AnswersUsage plan s s (Err refusals.NoMemory)
+  refuses_memory s = record { accepted = tt; usage = λ same. cc; refused = λ _. inr refl; unread = λ _. refl }
+
+-- the words of a command are refused as it is
+pub usage_of_words : {S : Type 0} (words : List (List ℕ)) (command : Command) (old new : S) (result : Result Job Refusal) → command_of words ≡ Some command → AnswersUsage (command_plan (Some command)) old new result → AnswersUsage (command_plan (command_of words)) old new result
+usage_of_words words command old new result is answer =
+    subst (λ (c : Option Command). AnswersUsage (command_plan c) old new result) (sym is) answer
+
+-- words of no command are refused
+pub refuses_words : {S : Type 0} (words : List (List ℕ)) (s : S) (fault : WordFault) → fault ≡ word_faults.Usage → Calls {T = Command} (command_of words) (Err fault) → AnswersUsage (command_plan (command_of words)) s s (Err refusals.Usage)
+refuses_words words s fault is none =
+    refuses s (ap (λ (c : Option Command). is_usage (command_plan c)) (subst (λ (f : WordFault). Calls {T = Command} (command_of words) (Err f)) is none))

@@ -1,6 +1,6 @@
 -- The numbers of a command that is read are in their ranges.
 use Rattle.std.proofs.Common.{◌≡◌, ℕ, ◌^◌, ◌≤◌, Bool, true, false, cond, ◌&&◌, List, [], ◌∷◌, Option, Some, None, refl, subst, ap, ◌∙◌, arith}
-use Rattle.std.specs.Prelude.{nat_le, codes, bytes_eq, option_map, option_and_then, IfSome}
+use Rattle.std.specs.Prelude.{nat_le, codes, bytes_eq, option_map, IfSome}
 use Rattle.std.proofs.lemmas.Bool.Decides.{nat_tests}
 use Rattle.std.specs.Str.Parse.{digits_value}
 use Rattle.clap.specs.Walk.{Row, first_of}
@@ -10,7 +10,7 @@ use Rattle.wwt_words.specs.declared.command.Command.{Command}
 use Rattle.wwt_words.specs.declared.command.Command.TheVariants as commands
 use Rattle.wwt_words.specs.Numbers.{is_numeral, number_of, option_number_of}
 use Rattle.wwt_words.specs.Declarations.{run_command, check_command, load_command, dis_command, flat_command, is_read, rows_read}
-use Rattle.wwt_words.specs.Words.{is_set, workers_of, budget_of, run_of, check_of, load_of, dis_of, flat_of, read_by, command_named, command_of}
+use Rattle.wwt_words.specs.Words.{is_set, workers_of, budget_of, run_of, check_of, load_of, dis_of, flat_of, read_by, command_named, command_of, ◌>>=◌}
 use Rattle.wwt_case.specs.Case.{HasRanges}
 
 -- what is read, if anything is, is in its ranges
@@ -52,7 +52,7 @@ run_good : (rows : List Row) → IsGood (run_of rows)
 run_good rows = by (workers_of rows) (budget_of rows) refl (first_of (codes "machine") rows)
   where
     by : (workers : Option ℕ) (budget : Option (Option ℕ)) → budget_of rows ≡ budget → (machine : Option (List ℕ)) →
-        IsGood (option_and_then (λ w. option_and_then (λ b. option_map (commands.Run w (is_set (codes "trace") rows) (is_set (codes "memory") rows) b) machine) budget) workers)
+        IsGood (workers >>= λ w. budget >>= λ b. machine >>= λ m. Some (commands.Run w (is_set (codes "trace") rows) (is_set (codes "memory") rows) b m))
     by None budget is machine command e = cc
     by (Some workers) None is machine command e = cc
     by (Some workers) (Some budget) is None command e = cc
@@ -63,15 +63,16 @@ run_good rows = by (workers_of rows) (budget_of rows) refl (first_of (codes "mac
 load_good : (rows : List Row) → IsGood (load_of rows)
 load_good rows = by (first_of (codes "number") rows) (workers_of rows)
   where
-    with_number : (number : Option ℕ) → ((n : ℕ) → number ≡ Some n → n ≤ 9999) → (workers : Option ℕ) → IsGood (option_and_then (λ n. option_map (commands.Load n) workers) number)
+    with_number : (number : Option ℕ) → ((n : ℕ) → number ≡ Some n → n ≤ 9999) → (workers : Option ℕ) → IsGood (number >>= λ n. workers >>= λ w. Some (commands.Load n w))
     with_number None few workers command e = cc
     with_number (Some number) few None command e = cc
     with_number (Some number) few (Some workers) command e =
         let same : commands.Load number workers ≡ command = cc in subst HasRanges same (few number refl)
 
-    by : (text : Option (List ℕ)) (workers : Option ℕ) → IsGood (option_and_then (λ n. option_map (commands.Load n) workers) (option_and_then (number_of 0 9999) text))
-    by None workers = with_number None (λ n e. cc) workers
-    by (Some text) workers = with_number (number_of 0 9999 text) (λ n e. (in_range 0 9999 text n e).at_most) workers
+    by : (text : Option (List ℕ)) (workers : Option ℕ) → IsGood (text >>= λ t. number_of 0 9999 t >>= λ n. workers >>= λ w. Some (commands.Load n w))
+    by None workers command e = cc
+    by (Some text) workers command e =
+        with_number (number_of 0 9999 text) (λ n e. (in_range 0 9999 text n e).at_most) workers command e
 
 plain_good : (made : List ℕ → Command) → ((text : List ℕ) → HasRanges (made text)) → (text : Option (List ℕ)) → IsGood (option_map made text)
 plain_good made good None command e = cc

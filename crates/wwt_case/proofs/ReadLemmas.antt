@@ -16,7 +16,7 @@ use Rattle.wwt_case.specs.Plan.{Plan, ◌>>=◌, answer_of, file, names_read}
 use Rattle.wwt_case.specs.Plan.Plan.{Give}
 use Rattle.wwt_case.proofs.PlanLemmas.{answer_then, names_after}
 use Rattle.wwt_case.specs.Files.{file_of, bytes_of, and_then, names_then, read_limit}
-use Rattle.wwt_case.specs.Reading.{Answers, Asks, IsThrough, Reads, ReadsAs}
+use Rattle.wwt_case.specs.Reading.{Answers, Asks, IsSound, IsThrough, Reads, ReadsAs}
 
 missing_file : (name : List ℕ) (kind : FileKind) (found : Option (List ℕ)) → IsNone found → bytes_of name kind found ≡ Err (Read name)
 missing_file name kind None none = refl
@@ -34,6 +34,24 @@ module _ {S : Type 0} where
     are_asked = asked_once view read_limit old name new (subst (λ (n : List ℕ). view.asked old n read_limit new) same asked);
     part = λ files told. ([], refl);
     whole = λ files told through. refl;
+  }
+
+  -- a read that didn't fail, of the name as it was spelt
+  pub other_read : (name : List ℕ) (kind : FileKind) (view : StoreView S) (old new : S) (result : Result (List ℕ) Refusal) (spelt : List ℕ)
+      → ((other : List ℕ) → result ≢ Err (Read other))
+      → ((files : Files) → view.files old ≡ Some files → IfOk result (λ bytes. file_of name kind files ≡ Ok bytes))
+      → ((files : Files) → view.files old ≡ Some files → IsSound view old new → IfErr result (λ refusal. (refusal ≡ NoMemory) ⊎ (file_of name kind files ≡ Err refusal)))
+      → spelt ≡ name → view.asked old spelt read_limit new → view.faults new ≡ view.faults old → view.files new ≡ view.files old
+      → ReadsAs (file_of name kind) (λ _. name ∷ []) view old new result
+  other_read name kind view old new result spelt other found refused same asked steady kept = record {
+    found = found;
+    refused = refused;
+    named = λ files given told failed. absurd (other given failed);
+    once = asks_one spelt name view old new _ same asked;
+    unread = λ given failed. absurd (other given failed);
+    steady = λ _. steady;
+    later = omega (arith, steady);
+    kept = kept;
   }
 
   -- a read that failed

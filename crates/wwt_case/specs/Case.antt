@@ -11,7 +11,7 @@ use Rattle.machine_json.specs.Description.{description_of}
 use Rattle.wt_outside.specs.Files.{Files}
 use Rattle.wwt_words.specs.declared.command.Command.{Command}
 use Rattle.wwt_words.specs.declared.command.Command.TheVariants as commands
-use Rattle.wwt_words.specs.Words.{command_of}
+use Rattle.wwt_words.specs.Words.{Words, texts_of, command_of}
 use Rattle.wwt_case.specs.declared.job.Job.{Job}
 use Rattle.wwt_case.specs.declared.job.Job.TheVariants.{Check, Dis, Flat, Run, Load}
 use Rattle.wwt_case.specs.declared.job.Described.{Described}
@@ -21,7 +21,7 @@ use Rattle.wwt_case.specs.declared.refusal.Refusal.TheVariants.{Usage, Machine}
 use Rattle.wwt_case.specs.declared.refusal.FileKind.TheVariants as kinds
 use Rattle.elf_image.specs.Flat.{flat_image}
 use Rattle.wwt_case.specs.Files.{and_then}
-use Rattle.wwt_case.specs.Plan.{Plan, ◌>>=◌, answer_of, file, is_usage, names_read}
+use Rattle.wwt_case.specs.Plan.{Plan, ◌>>=◌, answer_of, file, names_read}
 use Rattle.wwt_case.specs.Plan.Plan.{Give}
 use Rattle.wwt_case.specs.Programs.{program_of, images_plan, load_case, has_magic}
 
@@ -117,20 +117,17 @@ command_plan (Some (commands.Run workers trace memory budget machine)) =
 command_plan (Some (commands.Load number workers)) = if workers == 1 then generated_plan number else Give (Err Usage)
 command_plan None = Give (Err Usage)
 
-abbrev pub plan_of : List (List ℕ) → Plan Job
-plan_of words = command_plan (command_of words)
+-- the plan of the words of the command line
+abbrev pub plan_of : Words → Plan Job
+plan_of words = command_plan (command_of (texts_of words))
 
 -- what the words and the files call for
-abbrev pub case_of : List (List ℕ) → Files → Result Job Refusal
+abbrev pub case_of : Words → Files → Result Job Refusal
 case_of words = answer_of (plan_of words)
 
 -- the names that are read for it, in order
-abbrev pub names_of : List (List ℕ) → Files → List (List ℕ)
+abbrev pub names_of : Words → Files → List (List ℕ)
 names_of words = names_read (plan_of words)
-
--- the words are refused by themselves
-abbrev pub is_usage_of : Option Command → Bool
-is_usage_of command = is_usage (command_plan command)
 
 -- a budget that a machine may have
 abbrev pub IsBudget : ℕ → Type 0

@@ -1,5 +1,5 @@
 -- What a call that reads from a store answers, next to what the files call for. Own.
-use Rattle.std.specs.Prelude.{◌≡◌, ◌≢◌, ⊤, ℕ, ◌≤◌, ◌⊎◌, List, ◌++◌, Contains, Some, Result, Ok, Err, IfOk, IfErr}
+use Rattle.std.specs.Prelude.{◌≡◌, ◌≢◌, ⊤, ℕ, ◌≤◌, ◌⊎◌, List, ◌++◌, true, false, Contains, Some, Result, Ok, Err, IfOk, IfErr}
 use Rattle.wt_outside.specs.Faults.{Rose, Stood}
 use Rattle.wt_outside.specs.Asked.{AreAsked}
 use Rattle.wt_outside.specs.Files.{Files, IsMissing}
@@ -7,7 +7,7 @@ use Rattle.wt_outside.specs.Views.{StoreView}
 use Rattle.elf_image.specs.declared.fault.ImageFault.TheVariants as files
 use Rattle.machine_json.specs.declared.fault.MachineFault.TheVariants as machines
 use Rattle.wwt_case.specs.Files.{read_limit}
-use Rattle.wwt_case.specs.Plan.{Plan, answer_of, names_read}
+use Rattle.wwt_case.specs.Plan.{Plan, answer_of, is_usage, names_read}
 use Rattle.wwt_case.specs.declared.refusal.ImageRefusal.TheVariants.{Elf}
 use Rattle.wwt_case.specs.declared.refusal.Refusal.{Refusal}
 use Rattle.wwt_case.specs.declared.refusal.Refusal.TheVariants.{Usage, Read, Machine, Image, Write, NoMemory}
@@ -49,6 +49,14 @@ pub record ReadsAs {S A : Type 0} (wanted : Files → Result A Refusal) (names :
 -- the same of a plan
 abbrev pub Reads : {S A : Type 0} → Plan A → StoreView S → S → S → Result A Refusal → Type 0
 Reads plan view old new result = ReadsAs (answer_of plan) (names_read plan) view old new result
+
+-- Usage is answered only where the plan refuses the words by themselves, and there always, memory allowing. Nothing is
+-- read there.
+pub record AnswersUsage {S A : Type 0} (plan : Plan A) (old new : S) (result : Result A Refusal) : Type 0 where
+  pub accepted : IfOk result (λ _. is_usage plan ≡ false)
+  pub usage : result ≡ Err Usage → is_usage plan ≡ true
+  pub refused : is_usage plan ≡ true → (result ≡ Err Usage) ⊎ (result ≡ Err NoMemory)
+  pub unread : is_usage plan ≡ true → new ≡ old
 
 -- Want of memory has a name of its own, and is never told as a fault of a file.
 abbrev pub IsByItsName : Refusal → Type 0

@@ -1,9 +1,9 @@
-ghost use Rattle.std.specs.Prelude.{◌≡◌, ◌≢◌, ◌≤◌, ◌⊎◌, ◌∷◌, [], Some, Err, All, length, map, string_bytes, true, false, IfOk, IfErr, IfSome, IsErrOf};
+ghost use Rattle.std.specs.Prelude.{◌≡◌, ◌≢◌, ◌≤◌, ◌⊎◌, ◌∷◌, [], Some, Err, All, length, true, IfOk, IfErr, IfSome, IsErrOf};
 ghost use Rattle.elf_image.specs.Sizes.{HoldsItsBytes};
 ghost use Rattle.machine_json.specs.Description.{description_of, HasImages};
-ghost use Rattle.wwt_case.specs.Case.{plan_of, is_usage_of, command_plan, check_plan, run_plan, with_budget_of, generated_plan, described_plan, machine_plan, loaded_machine, description_plan, description_or, dis_plan, dis_of, flat_plan, flat_of, input_name, HasRanges, IsBudget, IsLoaded, IsReady};
-ghost use Rattle.wwt_case.specs.Reading.{Answers, Reads, IsByItsName, IsOther};
-ghost use Rattle.wwt_words.specs.Words.{command_of};
+ghost use Rattle.wwt_case.specs.Plan.{is_usage};
+ghost use Rattle.wwt_case.specs.Case.{plan_of, command_plan, check_plan, run_plan, with_budget_of, generated_plan, described_plan, machine_plan, loaded_machine, description_plan, description_or, dis_plan, dis_of, flat_plan, flat_of, input_name, HasRanges, IsBudget, IsLoaded, IsReady};
+ghost use Rattle.wwt_case.specs.Reading.{Answers, AnswersUsage, Reads, IsByItsName, IsOther};
 
 use crate::images::{Images, read_images};
 use crate::job::{Described, Job};
@@ -22,12 +22,9 @@ use wwt_words::{Command, WordFault, read_words};
 /// The job that the words and the files of the store call for, or why there is none. Each name that is listed for it is
 /// read once, in order, and none after a refusal.
 pub fn prepare<S: Store>(alloc: Global, words: &[String], store: &mut S) -> Result<Job, Refusal>
-    ensures read { Reads (plan_of (map string_bytes words.now)) S.view store.old store.new result }
+    ensures read { Reads (plan_of words.now) S.view store.old store.new result }
+    ensures usage { AnswersUsage (plan_of words.now) store.old store.new result }
     ensures ready { IfOk result IsReady }
-    ensures accepted { IfOk result (λ _. is_usage_of (command_of (map string_bytes words.now)) ≡ false) }
-    ensures usage { IsErrOf result Refusal.Usage → is_usage_of (command_of (map string_bytes words.now)) ≡ true }
-    ensures refused { is_usage_of (command_of (map string_bytes words.now)) ≡ true → IsErrOf result Refusal.Usage ⊎ IsErrOf result Refusal.NoMemory }
-    ensures unread { is_usage_of (command_of (map string_bytes words.now)) ≡ true → store.new ≡ store.old }
     ensures reads { result ≢ Err Refusal.Write }
     ensures wanting { IfErr result IsByItsName }
 {
@@ -46,11 +43,9 @@ fn prepare_command<S: Store>(
 ) -> Result<Job, Refusal>
     requires { HasRanges command.now }
     ensures read { Reads (command_plan (Some command.now)) S.view store.old store.new result }
+    ensures usage { AnswersUsage (command_plan (Some command.now)) store.old store.new result }
+    ensures refused { is_usage (command_plan (Some command.now)) ≡ true → IsErrOf result Refusal.Usage }
     ensures ready { IfOk result IsReady }
-    ensures accepted { IfOk result (λ _. is_usage_of (Some command.now) ≡ false) }
-    ensures usage { IsErrOf result Refusal.Usage → is_usage_of (Some command.now) ≡ true }
-    ensures refused { is_usage_of (Some command.now) ≡ true → IsErrOf result Refusal.Usage }
-    ensures unread { is_usage_of (Some command.now) ≡ true → store.new ≡ store.old }
     ensures reads { result ≢ Err Refusal.Write }
     ensures wanting { IfErr result IsByItsName }
 {

@@ -1,15 +1,15 @@
 -- What a call of the program answers, writes and says. Own.
-use Rattle.std.specs.Prelude.{ℕ, ◌≡◌, ◌≢◌, ◌⊎◌, List, [], map, true, Contains, Option, Some, Result, Ok, Err, IfOk, IfErr, IfSome, String, string_bytes}
-use Rattle.std.specs.declared.alloc.Global.{Global}
+use Rattle.std.specs.Prelude.{ℕ, ◌≡◌, ◌≢◌, ◌⊎◌, List, [], true, Contains, Option, Some, Result, Ok, Err, IfOk, IfErr, IfSome}
 use Rattle.wt_outside.specs.Faults.{Rose, Stood}
 use Rattle.wt_outside.specs.Files.{Files, IsMissing}
 use Rattle.wt_outside.specs.Growth.{Grows, GrowsByPrefix}
 use Rattle.wt_outside.specs.Views.{StoreView, SinkView}
-use Rattle.wwt_words.specs.Words.{command_of}
+use Rattle.wwt_words.specs.Words.{Words}
 use Rattle.wwt_case.specs.declared.job.Job.{Job}
 use Rattle.wwt_case.specs.declared.refusal.Refusal.{Refusal}
 use Rattle.wwt_case.specs.declared.refusal.Refusal.TheVariants as refusals
-use Rattle.wwt_case.specs.Case.{case_of, names_of, is_usage_of}
+use Rattle.wwt_case.specs.Plan.{is_usage}
+use Rattle.wwt_case.specs.Case.{plan_of, case_of, names_of}
 use Rattle.wwt_case.specs.Reading.{Asks, IsByItsName, IsSound}
 use Rattle.wwt_run.specs.declared.status.Status.{Status}
 use Rattle.wwt_run.specs.declared.status.Status.TheVariants.{Done, NodeFault, Usage, Budget, EventLimit, Stalled, BadMachine, BadImage, ReadFault, NoMemory}
@@ -17,23 +17,9 @@ use Rattle.wwt_run.specs.Jobs.{status_of_job, status_of, output_of, output_of_jo
 use Rattle.wwt_run.specs.Refused.{line_of_end}
 use Rattle.wwt_run.specs.Status.{status_of_end}
 
--- the words of the command line, as texts
-abbrev pub Words : Type 0
-Words = List (String Global)
-
-abbrev pub texts_of : Words → List (List ℕ)
-texts_of words = map string_bytes words
-
--- what the words and the files call for, and the names that are read for it
-abbrev pub wanted : Words → Files → Result Job Refusal
-wanted words = case_of (texts_of words)
-
-abbrev pub listed : Words → Files → List (List ℕ)
-listed words = names_of (texts_of words)
-
 -- the words are refused by themselves
 abbrev pub IsUsage : Words → Type 0
-IsUsage words = is_usage_of (command_of (texts_of words)) ≡ true
+IsUsage words = is_usage (plan_of words) ≡ true
 
 -- How a call may end, by what it is called for: a job is done, unless its output can't be written; a refusal is that
 -- refusal. Want of memory may come in place of either.
@@ -73,17 +59,17 @@ abbrev pub Headline : {S K : Type 0} → Words → StoreView S → S → S → S
 Headline words store s0 s1 out k0 k1 result =
     (files : Files) → store.files s0 ≡ Some files → IsSound store s0 s1 → Stood (out.faults k0) (out.faults k1)
     → (result ≡ Some NoMemory)
-    ⊎ ((result ≡ Some (status_of (wanted words files)))
-    × Grows (out.written k0) (out.written k1) (output_of (wanted words files)))
+    ⊎ ((result ≡ Some (status_of (case_of words files)))
+    × Grows (out.written k0) (out.written k1) (output_of (case_of words files)))
 
 -- How a call ended: as the told files call for, whatever the sinks did, or by a fault that the outside alone makes, and
 -- that is never passed over.
 pub record EndsBy {S K : Type 0} (words : Words) (store : StoreView S) (s0 s1 : S) (out : SinkView K) (k0 k1 : K) (end : Result Status Refusal) : Type 0 where
-  pub of_case : (files : Files) → store.files s0 ≡ Some files → IsSound store s0 s1 → Ends (wanted words files) end
+  pub of_case : (files : Files) → store.files s0 ≡ Some files → IsSound store s0 s1 → Ends (case_of words files) end
   pub usage : end ≡ Err refusals.Usage → IsUsage words
   -- a file that can't be read: its name is one that the told files lack, or a fault rose; and it is one of the listed
   pub unread : (name : List ℕ) → end ≡ Err (refusals.Read name) → Rose (store.faults s0) (store.faults s1) ⊎ IsMissing (store.files s0) name
-  pub named : (files : Files) (name : List ℕ) → store.files s0 ≡ Some files → end ≡ Err (refusals.Read name) → Contains (listed words files) name
+  pub named : (files : Files) (name : List ℕ) → store.files s0 ≡ Some files → end ≡ Err (refusals.Read name) → Contains (names_of words files) name
   pub read : ((name : List ℕ) → end ≢ Err (refusals.Read name)) → store.faults s1 ≡ store.faults s0
   -- an output that can't be written
   pub unwritten : end ≡ Err refusals.Write → Rose (out.faults k0) (out.faults k1)
@@ -103,14 +89,14 @@ pub record Ended {S K E : Type 0} (words : Words) (store : StoreView S) (s0 s1 :
 -- store rose and memory wasn't wanted, else a first part of them.
 abbrev pub AsksInOrder : {S : Type 0} → Words → StoreView S → S → S → Option Status → Type 0
 AsksInOrder words store s0 s1 result =
-    Asks (listed words) store s0 s1 (IsSound store s0 s1 × (result ≢ Some NoMemory))
+    Asks (names_of words) store s0 s1 (IsSound store s0 s1 × (result ≢ Some NoMemory))
 
 -- What is written: nothing before all is read and loaded, and always a first part of the output of some job, of told
 -- files that of their case.
-pub record Written {K : Type 0} (words : Words) (told : Option Files) (out : SinkView K) (k0 k1 : K) (result : Option Status) : Type 0 where
+pub record Written {S K : Type 0} (words : Words) (store : StoreView S) (s0 : S) (out : SinkView K) (k0 k1 : K) (result : Option Status) : Type 0 where
   pub nothing : IfSome result IsUnwritten → Grows (out.written k0) (out.written k1) []
   pub part : (job : Job) × GrowsByPrefix (out.written k0) (out.written k1) (output_of_job job)
-  pub told_part : (files : Files) → told ≡ Some files → GrowsByPrefix (out.written k0) (out.written k1) (output_of (wanted words files))
+  pub told_part : (files : Files) → store.files s0 ≡ Some files → GrowsByPrefix (out.written k0) (out.written k1) (output_of (case_of words files))
 
 -- The words are refused: nothing is read or written.
 pub record Untouched {S K : Type 0} (s0 s1 : S) (k0 k1 : K) (result : Option Status) : Type 0 where
@@ -123,5 +109,5 @@ pub record Attempts {S K : Type 0} (words : Words) (store : StoreView S) (s0 s1 
   pub headline : Headline words store s0 s1 out k0 k1 (Some (status_of_end end))
   pub by : EndsBy words store s0 s1 out k0 k1 end
   pub asks : AsksInOrder words store s0 s1 (Some (status_of_end end))
-  pub written : Written words (store.files s0) out k0 k1 (Some (status_of_end end))
+  pub written : Written words store s0 out k0 k1 (Some (status_of_end end))
   pub refused : IsUsage words → Untouched s0 s1 k0 k1 (Some (status_of_end end))

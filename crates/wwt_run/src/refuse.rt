@@ -1,19 +1,17 @@
-ghost use Rattle.std.specs.Prelude.{◌≡◌, map, OnOk, OnErr};
+ghost use Rattle.std.specs.Prelude.{◌≡◌, flat_map, IfErr};
 ghost use Rattle.wt_text.specs.Text.{eight_digits};
-ghost use Rattle.wt_outside.specs.Faults.{Rose};
-ghost use Rattle.wt_outside.specs.Growth.{Grows, GrowsByPrefix};
+ghost use Rattle.wt_outside.specs.Writes.{Writes};
 ghost use Rattle.machine_json.specs.declared.fault.MachineFault.TheVariants.{Range};
 ghost use Rattle.wwt_case.specs.declared.refusal.Refusal.TheVariants.{NoMemory, Machine, Image};
 ghost use Rattle.wwt_run.specs.Answer.{Tells};
 ghost use Rattle.wwt_run.specs.Refused.{error_line, file_text_of};
-ghost use Rattle.wwt_run.specs.Refused.{joined};
 ghost use Rattle.wwt_run.specs.Status.{status_of_refusal};
 
 use crate::status::Status;
 use elf_image::ImageFault;
 use itoa::Buffer;
 use machine_json::MachineFault;
-use wt_outside::{Failed, Sink};
+use wt_outside::{Sink, WriteFault};
 use wwt_case::{ImageRefusal, Refusal};
 
 const USAGE: &[u8] =
@@ -201,26 +199,27 @@ fn eight_digits(word: u32) -> [u8; 8]
 
 /// Writes the line of a refusal, which comes in parts, up to the first part that fails.
 fn say<E: Sink>(refusal: &Refusal, parts: &[&[u8]], err: &mut E)
-    requires { joined (map (λ part. part.now) parts.now) ≡ error_line refusal.now }
+    requires { flat_map (λ part. part.now) parts.now ≡ error_line refusal.now }
     ensures { Tells (error_line refusal.now) E.view err.old err.new }
 {
     for part in parts {
         match say_part(err, part) {
             Ok(()) => {}
-            Err(Failed) => return,
+            Err(_) => return,
         }
     }
 }
 
-/// Writes a part of a line.
-fn say_part<E: Sink>(err: &mut E, part: &[u8]) -> Result<(), Failed>
-    ensures ok { OnOk result (Grows (E.view.written err.old) (E.view.written err.new) part.now) }
-    ensures err { OnErr result (GrowsByPrefix (E.view.written err.old) (E.view.written err.new) part.now) }
-    ensures steady { OnOk result (E.view.faults err.new ≡ E.view.faults err.old) }
-    ensures failed { OnErr result (Rose (E.view.faults err.old) (E.view.faults err.new)) }
+/// Writes a part of a line. It takes no memory.
+fn say_part<E: Sink>(err: &mut E, part: &[u8]) -> Result<(), WriteFault>
+    ensures writes { Writes part.now result E.view err.old err.new }
+    ensures fault { IfErr result (λ fault. fault ≡ WriteFault.Failed) }
 {
     if part.is_empty() {
         return Ok(());
     }
-    err.write(part)
+    match err.write(part) {
+        Ok(()) => Ok(()),
+        Err(_) => Err(WriteFault::Failed),
+    }
 }

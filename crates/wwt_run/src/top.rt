@@ -32,7 +32,7 @@ pub fn wwt_plain<S: Store, K: Sink, E: Sink>(
     ensures asks { AsksInOrder words.now S.view store.old store.new result }
 
     // What is written, whatever fails.
-    ensures written { Written words.now (S.view.files store.old) K.view out.old out.new result }
+    ensures written { Written words.now S.view store.old K.view out.old out.new result }
 
     // Words that are refused by themselves touch nothing.
     ensures refused { IsUsage words.now → Untouched store.old store.new out.old out.new result }

@@ -1,7 +1,8 @@
 -- What the words of the command line call for: the first is the command's name, and the others are read by the
 -- command's declaration. Own, over the definition of a simple command of `clap`.
-use Rattle.std.specs.Prelude.{ℕ, ◌≡◌, ◌^◌, ⊤, List, [], ◌∷◌, Bool, false, Option, Some, None, Result, Ok, Err, codes, bytes_eq, unwrap_or, option_and_then, option_map, if◌then◌else◌}
+use Rattle.std.specs.Prelude.{ℕ, ◌≡◌, ◌^◌, ⊤, List, [], ◌∷◌, Bool, false, Option, Some, None, Result, Ok, Err, String, map, string_bytes, codes, bytes_eq, unwrap_or, option_and_then, option_map, if◌then◌else◌}
 use Rattle.std.specs.Option.{option_map_or}
+use Rattle.std.specs.declared.alloc.Global.{Global}
 use Rattle.clap.specs.Walk.{Row, first_of}
 use Rattle.clap.specs.Simple.{App}
 use Rattle.wwt_words.specs.declared.command.Command.{Command}
@@ -10,6 +11,18 @@ use Rattle.wwt_words.specs.declared.command.WordFault.{WordFault}
 use Rattle.wwt_words.specs.declared.command.WordFault.TheVariants.{Usage, NoMemory}
 use Rattle.wwt_words.specs.Numbers.{number_of, option_number_of}
 use Rattle.wwt_words.specs.Declarations.{run_command, check_command, load_command, dis_command, flat_command, is_read, rows_read}
+
+-- the words of the command line, and their texts
+abbrev pub Words : Type 0
+Words = List (String Global)
+
+abbrev pub texts_of : Words → List (List ℕ)
+texts_of words = map string_bytes words
+
+-- the ? of the logic: a second step with the value of the first, if there is one
+infixl 10 ◌>>=◌
+abbrev pub ◌>>=◌ : {A B : Type 0} → Option A → (A → Option B) → Option B
+found >>= next = option_and_then next found
 
 -- a flag stands there
 abbrev pub is_set : List ℕ → List Row → Bool
@@ -24,15 +37,21 @@ abbrev pub budget_of : List Row → Option (Option ℕ)
 budget_of rows = option_number_of 1 (2 ^ 40) (first_of (codes "budget") rows)
 
 abbrev pub run_of : List Row → Option Command
-run_of rows =
-    option_and_then (λ workers. option_and_then (λ budget. option_map (Run workers (is_set (codes "trace") rows) (is_set (codes "memory") rows) budget) (first_of (codes "machine") rows)) (budget_of rows)) (workers_of rows)
+run_of rows = do
+  workers ← workers_of rows
+  budget ← budget_of rows
+  machine ← first_of (codes "machine") rows
+  Some (Run workers (is_set (codes "trace") rows) (is_set (codes "memory") rows) budget machine)
 
 abbrev pub check_of : List Row → Option Command
 check_of rows = option_map Check (first_of (codes "machine") rows)
 
 abbrev pub load_of : List Row → Option Command
-load_of rows =
-    option_and_then (λ number. option_map (Load number) (workers_of rows)) (option_and_then (number_of 0 9999) (first_of (codes "number") rows))
+load_of rows = do
+  text ← first_of (codes "number") rows
+  number ← number_of 0 9999 text
+  workers ← workers_of rows
+  Some (Load number workers)
 
 abbrev pub dis_of : List Row → Option Command
 dis_of rows = option_map Dis (first_of (codes "image") rows)

@@ -1,9 +1,9 @@
-ghost use Rattle.std.specs.Prelude.{◌≡◌, ◌⊎◌, true, false, map, string_bytes, IfOk, IfErr};
+ghost use Rattle.std.specs.Prelude.{◌≡◌, ◌⊎◌, true, false, IfOk, IfErr};
 ghost use Rattle.std.specs.Option.{option_map};
 ghost use Rattle.clap.specs.Words.{app_of, first_value, found_of, rows_of, is_simple_and_free};
 ghost use Rattle.clap.specs.Walk.{Row, first_of};
 ghost use Rattle.wwt_words.specs.Declarations.{is_read, rows_read};
-ghost use Rattle.wwt_words.specs.Words.{is_set};
+ghost use Rattle.wwt_words.specs.Words.{texts_of};
 
 use crate::command::WordFault;
 use clap::error::ErrorKind;
@@ -13,9 +13,9 @@ use clap::{ArgMatches, Command};
 #[tactic(auto, unfolding(crate::specs::Declarations::is_read, crate::specs::Declarations::rows_read))]
 pub fn read_by<'a>(command: Command<'a>, words: &'a [String]) -> Result<ArgMatches<'a>, WordFault>
     requires { is_simple_and_free (app_of command) ≡ true }
-    ensures read { IfOk result (λ matches. is_read (app_of command.entry) (map string_bytes words.entry.now) ≡ true) }
-    ensures rows { IfOk result (λ matches. rows_of (found_of matches) ≡ rows_read (app_of command.entry) (map string_bytes words.entry.now)) }
-    ensures refused { IfErr result (λ fault. (fault ≡ WordFault.NoMemory) ⊎ ((fault ≡ WordFault.Usage) × (is_read (app_of command.entry) (map string_bytes words.entry.now) ≡ false))) }
+    ensures read { IfOk result (λ matches. is_read (app_of command.entry) (texts_of words.entry.now) ≡ true) }
+    ensures rows { IfOk result (λ matches. rows_of (found_of matches) ≡ rows_read (app_of command.entry) (texts_of words.entry.now)) }
+    ensures refused { IfErr result (λ fault. (fault ≡ WordFault.NoMemory) ⊎ ((fault ≡ WordFault.Usage) × (is_read (app_of command.entry) (texts_of words.entry.now) ≡ false))) }
 {
     match command.try_get_matches_from(words) {
         Ok(matches) => Ok(matches),

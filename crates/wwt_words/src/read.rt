@@ -1,9 +1,9 @@
-ghost use Rattle.std.specs.Prelude.{◌≡◌, ◌≤◌, ◌^◌, map, string_bytes, IfOk, IfSome};
+ghost use Rattle.std.specs.Prelude.{◌≡◌, ◌≤◌, ◌^◌, IfOk, IfSome};
 ghost use Rattle.clap.specs.Words.{found_of, rows_of};
 ghost use Rattle.clap.specs.Walk.{first_of};
 ghost use Rattle.wwt_words.specs.Declarations.{run_command, check_command, load_command, dis_command, flat_command};
 ghost use Rattle.wwt_words.specs.Numbers.{option_number_of};
-ghost use Rattle.wwt_words.specs.Words.{Reads, command_of, command_named, read_by, run_of, check_of, load_of, dis_of, flat_of, workers_of, is_set};
+ghost use Rattle.wwt_words.specs.Words.{Reads, command_of, command_named, read_by, run_of, check_of, load_of, dis_of, flat_of, workers_of, is_set, texts_of};
 
 use crate::arguments::{read_by, text};
 use crate::command::{Command, WordFault};
@@ -16,7 +16,7 @@ use std::alloc::Global;
 /// The command that the words of a command line call for. Usage exactly where they call for none.
 #[tactic(auto, unfolding(crate::specs::Words::command_of))]
 pub fn read_words(alloc: Global, words: &[String]) -> Result<Command, WordFault>
-    ensures { Reads (command_of (map string_bytes words.now)) result }
+    ensures { Reads (command_of (texts_of words.now)) result }
 {
     match words {
         [name, rest @ ..] => read_named(alloc, name.as_str(), rest),
@@ -26,7 +26,7 @@ pub fn read_words(alloc: Global, words: &[String]) -> Result<Command, WordFault>
 
 /// The command of a name, with the words after it.
 fn read_named(alloc: Global, name: &str, words: &[String]) -> Result<Command, WordFault>
-    ensures { Reads (command_named name.now (map string_bytes words.now)) result }
+    ensures { Reads (command_named name.now (texts_of words.now)) result }
 {
     match name {
         "run" => read_run(alloc, words),
@@ -40,7 +40,7 @@ fn read_named(alloc: Global, name: &str, words: &[String]) -> Result<Command, Wo
 
 #[tactic(auto, using(crate::proofs::Declared::run_is_simple))]
 fn read_run(alloc: Global, words: &[String]) -> Result<Command, WordFault>
-    ensures { Reads (read_by run_command run_of (map string_bytes words.now)) result }
+    ensures { Reads (read_by run_command run_of (texts_of words.now)) result }
 {
     let matches = read_by(run_command(alloc)?, words)?;
     let workers = workers(&matches)?;
@@ -57,7 +57,7 @@ fn read_run(alloc: Global, words: &[String]) -> Result<Command, WordFault>
 
 #[tactic(auto, using(crate::proofs::Declared::check_is_simple))]
 fn read_check(alloc: Global, words: &[String]) -> Result<Command, WordFault>
-    ensures { Reads (read_by check_command check_of (map string_bytes words.now)) result }
+    ensures { Reads (read_by check_command check_of (texts_of words.now)) result }
 {
     let matches = read_by(check_command(alloc)?, words)?;
     let machine = operand(alloc, &matches, "machine")?;
@@ -66,7 +66,7 @@ fn read_check(alloc: Global, words: &[String]) -> Result<Command, WordFault>
 
 #[tactic(auto, using(crate::proofs::Declared::load_is_simple))]
 fn read_load(alloc: Global, words: &[String]) -> Result<Command, WordFault>
-    ensures { Reads (read_by load_command load_of (map string_bytes words.now)) result }
+    ensures { Reads (read_by load_command load_of (texts_of words.now)) result }
 {
     let matches = read_by(load_command(alloc)?, words)?;
     let Some(text) = text(&matches, "number") else {
@@ -81,7 +81,7 @@ fn read_load(alloc: Global, words: &[String]) -> Result<Command, WordFault>
 
 #[tactic(auto, using(crate::proofs::Declared::dis_is_simple))]
 fn read_dis(alloc: Global, words: &[String]) -> Result<Command, WordFault>
-    ensures { Reads (read_by dis_command dis_of (map string_bytes words.now)) result }
+    ensures { Reads (read_by dis_command dis_of (texts_of words.now)) result }
 {
     let matches = read_by(dis_command(alloc)?, words)?;
     let image = operand(alloc, &matches, "image")?;
@@ -90,7 +90,7 @@ fn read_dis(alloc: Global, words: &[String]) -> Result<Command, WordFault>
 
 #[tactic(auto, using(crate::proofs::Declared::flat_is_simple))]
 fn read_flat(alloc: Global, words: &[String]) -> Result<Command, WordFault>
-    ensures { Reads (read_by flat_command flat_of (map string_bytes words.now)) result }
+    ensures { Reads (read_by flat_command flat_of (texts_of words.now)) result }
 {
     read_by(flat_command(alloc), words)?;
     Ok(Command::Flat)

@@ -2,21 +2,14 @@ use Rattle.std.proofs.Common.{◌⊎◌, Err, ap, subst, rules}
 use Rattle.wt_outside.specs.Faults.{Rose}
 use Rattle.wt_outside.specs.Files.{IsMissing}
 use Rattle.wwt_case.specs.Files.{read_limit}
-use Rattle.wwt_case.proofs.ReadLemmas.{asks_one, failed_read, file_read}
+use Rattle.wwt_case.proofs.ReadLemmas.{failed_read, file_read, other_read}
 use Rattle.wwt_case.proofs.read.read_file.Goals as goal
 
 pub returns-in-Ok-clause-read : goal.returns-in-Ok-clause-read
 returns-in-Ok-clause-read g c =
-    file_read c.args.name c.args.kind _ _ _ _ (record {
-      found = search rules;
-      refused = search rules;
-      named = search rules;
-      once = asks_one _ c.args.name _ _ _ _ c.get.ensures c.in-Ok.ensures.asked;
-      unread = search rules;
-      steady = search rules;
-      later = search rules;
-      kept = search rules;
-    })
+    file_read c.args.name c.args.kind _ _ _ _
+    (other_read c.args.name c.args.kind _ _ _ _ _ (λ other same. cc) (search rules) (search rules) c.get.ensures c.in-Ok.ensures.asked
+    c.in-Ok.ensures.steady c.in-Ok.ensures.files)
 
 pub returns-in-Err-Failed-clause-read : goal.returns-in-Err-Failed-clause-read
 returns-in-Err-Failed-clause-read g c =
@@ -25,26 +18,12 @@ returns-in-Err-Failed-clause-read g c =
 
 pub returns-in-Err-TooLong-clause-read : goal.returns-in-Err-TooLong-clause-read
 returns-in-Err-TooLong-clause-read g c =
-    file_read c.args.name c.args.kind _ _ _ _ (record {
-      found = search rules;
-      refused = search rules;
-      named = search rules;
-      once = asks_one _ c.args.name _ _ _ _ c.get.ensures c.in-Err-TooLong.ensures.asked;
-      unread = search rules;
-      steady = search rules;
-      later = search rules;
-      kept = search rules;
-    })
+    file_read c.args.name c.args.kind _ _ _ _
+    (other_read c.args.name c.args.kind _ _ _ _ _ (search rules) (search rules) (search rules) c.get.ensures c.in-Err-TooLong.ensures.asked
+    (search rules) c.in-Err-TooLong.ensures.files)
 
 pub returns-in-Err-NoMemory-clause-read : goal.returns-in-Err-NoMemory-clause-read
 returns-in-Err-NoMemory-clause-read g c =
-    file_read c.args.name c.args.kind _ _ _ _ (record {
-      found = search rules;
-      refused = search rules;
-      named = search rules;
-      once = asks_one _ c.args.name _ _ _ _ c.get.ensures c.in-Err-NoMemory.ensures.asked;
-      unread = search rules;
-      steady = search rules;
-      later = search rules;
-      kept = search rules;
-    })
+    file_read c.args.name c.args.kind _ _ _ _
+    (other_read c.args.name c.args.kind _ _ _ _ _ (λ other same. cc) (search rules) (search rules) c.get.ensures c.in-Err-NoMemory.ensures.asked
+    (search rules) c.in-Err-NoMemory.ensures.files)
