@@ -1,4 +1,4 @@
-ghost use Rattle.std.specs.Prelude.{◌≡◌, ◌<◌, ◌≤◌, ◌*◌, true, All, IfOk, OnErr, OnOk, length};
+ghost use Rattle.std.specs.Prelude.{◌≡◌, ◌+◌, ◌<◌, ◌≤◌, ◌*◌, true, All, IfOk, OnErr, OnOk, length};
 ghost use Rattle.discrete_events.specs.Round.{quantum_end};
 ghost use Rattle.discrete_events.specs.Serial.{final};
 ghost use Rattle.image_loader.specs.Images.{IsFor};
@@ -250,6 +250,28 @@ impl Engine {
         self.quanta = quanta.count;
         self.broken = false;
         Ok(())
+    }
+
+    /// Does quanta by so many workers, as long as there is an event, and none in another way.
+    pub fn run<R: Threads + Wait + Sync, G: Gate + Sync>(
+        &mut self,
+        rt: &R,
+        workers: u32,
+        gate: &G,
+    ) -> Result<(), NoMemory>
+        requires workers { (1 ≤ workers) × (workers ≤ 16) }
+        ensures end { OnOk result (world_of self.new ≡ final (sim_of self.old) (world_of self.old)) }
+        ensures unbroken { OnOk result (IsUnbroken self.old × IsUnbroken self.new) }
+        ensures machine { self.new.machine ≡ self.old.machine }
+        ensures broken { OnErr result (self.new.broken ≡ true) }
+        ensures threaded { OnOk result (self.new.threaded + self.old.quanta ≡ self.old.threaded + self.new.quanta) }
+    {
+        loop {
+            match self.round(rt, workers, gate)? {
+                Round::Ended => return Ok(()),
+                Round::More => {}
+            }
+        }
     }
 
     /// How many quanta were run by threads: the calls of `round` that found an event.
