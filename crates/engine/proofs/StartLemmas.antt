@@ -1,5 +1,5 @@
 -- An engine at the start.
-use Rattle.std.proofs.Common.{◌≡◌, ℕ, zero, suc, ◌+◌, ◌⊎◌, List, [], ◌∷◌, ◌++◌, map, Bool, false, None, refl, ap, sym, ◌∙◌, subst, inl, inr, arith}
+use Rattle.std.proofs.Common.{◌≡◌, ℕ, ◌+◌, ◌⊎◌, List, [], ◌∷◌, ◌++◌, map, Bool, false, None, refl, ap, sym, ◌∙◌, subst, inl, inr, arith}
 use Rattle.std.specs.List.{range_with_len}
 use Rattle.std.specs.FinMap.{get, empty, get-empty}
 use Rattle.std.proofs.lemmas.List.{map-append}
@@ -12,27 +12,18 @@ use Rattle.wt_proto.specs.KeyOrder.{key_cmp}
 use Rattle.image_loader.specs.Images.{LoadedImages}
 use Rattle.discrete_events.specs.Round.{together}
 use Rattle.discrete_events.specs.Core.{Station}
-use Rattle.discrete_events.specs.Laws.{IsIn, IsNumbered, IsStart, IsWorld, IsBetweenQuanta}
+use Rattle.discrete_events.specs.Laws.{IsIn, IsBetweenQuanta}
 use Rattle.discrete_events.proofs.Lists.{in_append, from_map, map_map}
 use Rattle.discrete_events.proofs.Queues.{Queue, same_queue, first_of, get_together}
-use Rattle.discrete_events.proofs.Whole.{start_is_world}
 use Rattle.node.specs.declared.state.NodeState.{NodeState}
 use Rattle.node.specs.React.{wind_tunnel}
 use Rattle.node.specs.Sound.{IsNode}
-use Rattle.node.specs.Laws.{Fits}
 use Rattle.node.specs.Start.{start_node}
-use Rattle.node.proofs.EventKept.{machines_are_simulations}
 use Rattle.quantum.specs.Stations.{StationModel, IsLive, IsUnbroken as IsWholeStation, machine_of, station_of, station_at_start}
-use Rattle.quantum.specs.World.{start_of}
+use Rattle.quantum.specs.World.{World, start_of}
+use Rattle.quantum.specs.Starts.{IsWorldOf}
+use Rattle.quantum.proofs.AtStart.{start_of_sound}
 use Rattle.engine.specs.Engine.{EngineModel, IsRunning, IsStationOf, all_pending, nodes_of, world_of}
-
-number_at_start : (machine : MachineParts) (loaded : LoadedImages) (traced : Bool) (k : ℕ) → (start_node machine loaded traced k).number ≡ k
-unfolding start_node
-number_at_start machine loaded traced k = refl
-
-unused_at_start : (machine : MachineParts) (loaded : LoadedImages) (traced : Bool) (k : ℕ) → (start_node machine loaded traced k).last ≡ None
-unfolding start_node
-unused_at_start machine loaded traced k = refl
 
 module _ (machine : MachineParts) (loaded : LoadedImages) (traced : Bool) where
   -- the stations of the first nodes, each at the start
@@ -55,13 +46,6 @@ module _ (machine : MachineParts) (loaded : LoadedImages) (traced : Bool) where
       either s (inl h) = so_far.each s h
       either s (inr (inl e)) = subst (IsStationOf machine 0) (sym e) (record { whole = whole; machine_is = machine_is; live = live; ran = ap (λ (t : Station NodeState Msg). t.until) start })
       either s (inr (inr none)) = absurd none
-
-  numbered_at_start : (from count : ℕ) → from + count ≡ machine.nodes → IsNumbered (wind_tunnel machine) from (map (start_node machine loaded traced) (range_with_len from count))
-  numbered_at_start from zero e = omega arith
-  numbered_at_start from (suc count) e = (number_at_start machine loaded traced from, subst (λ k. IsNumbered (wind_tunnel machine) k (map (start_node machine loaded traced) (range_with_len (from + 1) count))) more (numbered_at_start (from + 1) count (omega arith)))
-    where
-      more : from + 1 ≡ suc from
-      more = omega arith
 
   first_of_none : {A : Type 0} (f : A → Queue Msg) (xs : List A) (q : Key) → ((x : A) → f x ≡ empty) → first_of q (map f xs) ≡ None
   first_of_none f [] q none = refl
@@ -94,20 +78,9 @@ module _ (machine : MachineParts) (loaded : LoadedImages) (traced : Bool) where
         of : (s : StationModel) × IsIn s stations × (node ≡ s.node.state) → IsNode machine node
         of (s, h, e) = subst (IsNode machine) (sym e) (subst (λ m. IsNode m s.node.state) (all.each s h).machine_is (all.each s h).live.sound.sound)
 
-    start_is : IsStart (wind_tunnel machine) (IsNode machine) (world_of engine)
-    start_is = record {
-      numbered = subst (IsNumbered (wind_tunnel machine) 0) (sym nodes_are) (numbered_at_start 0 machine.nodes (omega arith));
-      sound = sound;
-      unused = λ node member. of node (from_map (start_node machine loaded traced) node (range_with_len 0 machine.nodes) (subst (λ ns. IsIn node ns) nodes_are member));
-      pending = pending_is;
-      kept_end = refl;
-    }
-      where
-        of : (node : NodeState) → (k : ℕ) × IsIn k (range_with_len 0 machine.nodes) × (node ≡ start_node machine loaded traced k) → node.last ≡ None
-        of node (k, h, e) = ap (λ (n : NodeState). n.last) e ∙ unused_at_start machine loaded traced k
-
-    worlds : IsWorld (wind_tunnel machine) (IsNode machine) (Fits machine) (world_of engine) × IsBetweenQuanta (wind_tunnel machine) (world_of engine)
-    worlds = start_is_world (wind_tunnel machine) (IsNode machine) (Fits machine) (machines_are_simulations machine numbers).laws (world_of engine) start_is
+    worlds : IsWorldOf machine (world_of engine) × IsBetweenQuanta (wind_tunnel machine) (world_of engine)
+    worlds = subst (λ (w : World). IsWorldOf machine w × IsBetweenQuanta (wind_tunnel machine) w) (sym world_is_start)
+        (start_of_sound machine loaded traced numbers (λ node member. sound node (subst (λ ns. IsIn node ns) (sym nodes_are) member)))
 
     pub running_at_start : IsRunning engine
     running_at_start = record {

@@ -1,6 +1,6 @@
 ghost use Rattle.std.specs.Prelude.{◌≡◌, ◌<◌, Some};
 ghost use Rattle.image_loader.specs.Images.{image_of};
-ghost use Rattle.image_loader.specs.Loading.{IsProgram, IsEntryOf, shared_bytes};
+ghost use Rattle.image_loader.specs.Loading.{AreLoaded, IsProgram, IsEntryOf, shared_bytes};
 
 use elf_image::Image;
 use std::marker::Model;
@@ -29,9 +29,10 @@ impl Model for Loaded {
 }
 
 impl Loaded {
-    /// The images, in their order.
+    /// The images, in their order. Each of them can be loaded.
     pub fn images(&self) -> &[Image]
-        ensures { result.now ≡ self.now.images }
+        ensures value { result.now ≡ self.now.images }
+        ensures loaded { AreLoaded self.now }
     {
         self.images.as_slice()
     }

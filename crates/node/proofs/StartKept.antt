@@ -1,15 +1,16 @@
 -- A node at the start is sound.
-use Rattle.std.proofs.Common.{◌≡◌, ℕ, ◌<◌, ◌≤◌, Bool, List, [], length, Option, Some, None, refl, subst, sym, arith}
+use Rattle.std.proofs.Common.{◌∙◌, ◌≡◌, ℕ, ◌<◌, ◌≤◌, Bool, List, [], length, Option, Some, None, refl, subst, sym, arith}
 use Rattle.std.specs.Prelude.{All, IsSomeAnd}
 use Rattle.std.specs.List.{range_with_len}
 use Rattle.std.proofs.lemmas.List.{length-replicate, get_or-replicate}
 use Rattle.std.proofs.lemmas.List.Elements.{All-map}
 use Rattle.std.proofs.lemmas.List.FromFn.{length-map-range_with_len}
 use Rattle.wt_params.specs.declared.parts.MachineParts.{MachineParts}
-use Rattle.wt_params.specs.Machine.{IsMachine}
+use Rattle.wt_params.specs.Machine.{IsMachine, shared_base}
 use Rattle.elf_image.specs.declared.image.Image.{Image}
 use Rattle.image_loader.specs.Images.{LoadedImages, image_of, IsFor}
-use Rattle.image_loader.specs.Loading.{IsProgram, private_of, shared_bytes}
+use Rattle.image_loader.specs.Loading.{AreLoaded, IsProgram, private_of, shared_bytes}
+use Rattle.image_loader.proofs.Served.{is_served}
 use Rattle.target_cache.specs.declared.line.Line.{Line}
 use Rattle.target_cache.specs.Cached.{IsCached, AreLines, empty_cache}
 use Rattle.dir1sw.specs.declared.home.HomeBlock.{HomeBlock}
@@ -17,6 +18,8 @@ use Rattle.dir1sw.specs.Homes.{count_of}
 use Rattle.dir1sw.specs.Fits.{HomeFits}
 use Rattle.dir1sw.specs.Table.{copies_of}
 use Rattle.start_memories.specs.Start.{homes_of, block_at, block_at_start}
+use Rattle.start_memories.proofs.HomesLaws.{block_exists, homes_fit}
+use Rattle.start_memories.proofs.SizeLaws.{block_size, private_size}
 use Rattle.node.specs.declared.state.NodeState.{NodeState}
 use Rattle.node.specs.Start.{start_node}
 use Rattle.node.specs.Sound.{IsNode}
@@ -87,3 +90,12 @@ pub start_is_node : (machine : MachineParts) (loaded : LoadedImages) (traced : B
 unfolding start_node
 start_is_node machine loaded traced number node start is for there program size homes =
     subst (λ (n : NodeState). IsNode machine n) (sym start) (at_image machine loaded traced number (image_of loaded number) refl is for there program (rw start at size) (rw start at homes))
+
+-- What is known of the machine and its loaded images is enough.
+pub start_is_sound : (machine : MachineParts) (loaded : LoadedImages) (traced : Bool) (number : ℕ) → IsMachine machine → IsFor machine loaded → AreLoaded loaded → number < machine.nodes → IsNode machine (start_node machine loaded traced number)
+start_is_sound machine loaded traced number is for are there =
+    let served = is_served loaded number are (omega (arith, for.nodes)) in
+    let low : loaded.private_bytes ≤ shared_base = omega (arith, for.private_bytes, is.private_bytes.range.at_most) in
+    sound_at_start machine loaded traced number served.image is for there served.found served.program
+    (private_size loaded are low number (omega (arith, for.nodes)) ∙ for.private_bytes)
+    (homes_fit machine loaded number (λ place within. block_size loaded are low (block_at machine number place) (let exists = block_exists machine number place there within in omega (arith, for.blocks)) ∙ for.block_bytes))

@@ -6,7 +6,7 @@ use Rattle.wt_proto.specs.declared.key.Key.{Key}
 use Rattle.wt_proto.specs.declared.message.Msg.{Msg}
 use Rattle.wt_proto.specs.declared.message.Stamped.{Stamped}
 use Rattle.wt_proto.specs.Messages.{StampedFits}
-use Rattle.discrete_events.specs.Simulation.{Event, Step, Arrival, Message}
+use Rattle.discrete_events.specs.Simulation.{Simulation, Event, Step, Arrival, Message}
 use Rattle.discrete_events.specs.Laws.{IsDue, IsSimulation, IsConservative}
 use Rattle.node.specs.declared.state.NodeState.{NodeState}
 use Rattle.node.specs.declared.state.Send.{Send}
@@ -63,6 +63,10 @@ pub record IsWindTunnel (machine : MachineParts) : Type 0 where
 
 abbrev pub MachinesAreSimulations : Type 0
 MachinesAreSimulations = (machine : MachineParts) → IsMachine machine → IsWindTunnel machine
+
+-- what is proved of any simulation, of every machine's
+abbrev pub HoldsOfMachines : (Simulation NodeState Msg → (NodeState → Type 0) → (Message Msg → Type 0) → Type 0) → Type 0
+HoldsOfMachines Theorem = (machine : MachineParts) → IsMachine machine → Theorem (wind_tunnel machine) (IsNode machine) (Fits machine)
 
 -- ---- a node of the program: its machine, its state, and whether memory was refused to it
 pub record NodeModel : Type 0 where

@@ -1,13 +1,23 @@
-ghost use Rattle.wt_params.specs.declared.parts.MachineParts.{MachineParts};
-ghost use Rattle.wt_params.specs.Machine.{IsMachine};
-ghost use Rattle.discrete_events.specs.Theorems.{RoundIsSerial};
-ghost use Rattle.node.specs.Laws.{Fits, MachinesAreSimulations};
-ghost use Rattle.node.specs.React.{wind_tunnel};
-ghost use Rattle.node.specs.Sound.{IsNode};
+ghost use Rattle.discrete_events.specs.Merges.{InOrderIsMerge, MergesAreRounds};
+ghost use Rattle.discrete_events.specs.Theorems.{EveryInterleaving, KeysAreNew, KeysRise, LateMessagePasses, LeastEventPeels, NoPast, NoPastOfRun, RoundIsSerial, RoundsAreSerial, SerialRunEnds, StandsFor, StartIsWorld};
+ghost use Rattle.node.specs.Laws.{HoldsOfMachines, MachinesAreSimulations};
 
-/// Every machine keeps the laws of a simulation, and its quanta are conservative. So a round of quanta is the
-/// serial run, on every machine.
+/// Every machine keeps the laws of a simulation, and its quanta are conservative. So what is proved of every simulation
+/// holds of every machine, each theorem under its own name.
 pub fn machines_are_simulations()
     ensures laws { MachinesAreSimulations }
-    ensures rounds { (machine : MachineParts) → IsMachine machine → RoundIsSerial (wind_tunnel machine) (IsNode machine) (Fits machine) }
+    ensures passes { HoldsOfMachines LateMessagePasses }
+    ensures peels { HoldsOfMachines LeastEventPeels }
+    ensures round { HoldsOfMachines RoundIsSerial }
+    ensures rounds { HoldsOfMachines RoundsAreSerial }
+    ensures ends { HoldsOfMachines SerialRunEnds }
+    ensures no_past { HoldsOfMachines NoPast }
+    ensures no_past_of_run { HoldsOfMachines NoPastOfRun }
+    ensures start { HoldsOfMachines StartIsWorld }
+    ensures new { HoldsOfMachines KeysAreNew }
+    ensures rise { HoldsOfMachines KeysRise }
+    ensures interleaving { HoldsOfMachines EveryInterleaving }
+    ensures stands { HoldsOfMachines StandsFor }
+    ensures merges { HoldsOfMachines MergesAreRounds }
+    ensures in_order { HoldsOfMachines InOrderIsMerge }
 {}

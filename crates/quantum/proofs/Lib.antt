@@ -7,3 +7,4 @@ pub mod Turns
 pub mod Free
 pub mod Accepted
 pub mod SoleLemmas
+pub mod AtStart

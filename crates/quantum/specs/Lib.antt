@@ -4,3 +4,4 @@ pub mod Stations
 pub mod FreeRuns
 pub mod Sites
 pub mod Sole
+pub mod Starts

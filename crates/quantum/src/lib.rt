@@ -6,7 +6,9 @@
 
 mod quanta;
 mod site;
+mod starts;
 mod station;
 
 pub use quanta::Quanta;
+pub use starts::starts_are_worlds;
 pub use station::{Outs, Station};

@@ -2,4 +2,5 @@ pub mod Overwrites
 pub mod PartLaws
 pub mod NodeLaws
 pub mod HomesLaws
+pub mod SizeLaws
 pub mod OnceLaws

@@ -3,7 +3,7 @@ use Rattle.std.proofs.Common.{◌≡◌, ℕ, zero, suc, ◌+◌, ◌-◌, ◌<�
 use Rattle.std.specs.Prelude.{fold, All, slice_get}
 use Rattle.std.proofs.lemmas.Bool.{cases_lt}
 use Rattle.std.proofs.lemmas.Grind.{same_number_lists}
-use Rattle.std.proofs.lemmas.List.{length-replicate, append-nil, length-append}
+use Rattle.std.proofs.lemmas.List.{length-replicate, append-nil}
 use Rattle.std.proofs.lemmas.List.Sums.{fold-append}
 use Rattle.wt_params.specs.declared.parts.MachineParts.{MachineParts}
 use Rattle.wt_params.specs.Machine.{IsMachine, shared_base}
@@ -11,11 +11,11 @@ use Rattle.elf_image.specs.declared.image.Image.{Image}
 use Rattle.elf_image.specs.declared.image.Segment.{Segment}
 use Rattle.elf_image.specs.Sizes.{FitsItsSize}
 use Rattle.priv_mem.specs.Memory.{overwritten}
-use Rattle.priv_mem.proofs.MemoryLaws.{length-overwritten}
 use Rattle.image_loader.specs.Images.{LoadedImages, IsFor, image_of}
 use Rattle.image_loader.specs.Loading.{IsPlaced, IsProgram, content_of, with_segment, segments_of, shared_bytes, shared_of}
 use Rattle.start_memories.proofs.Overwrites.{with_segment_inside, with_segment_elsewhere, get_or-overwritten_inside, get_or-overwritten_before, get_or-overwritten_after}
 use Rattle.start_memories.proofs.NodeLaws.{segments_below, segments_of_next, segments_of_image}
+use Rattle.start_memories.proofs.SizeLaws.{ends_in_shared, first_of_all, length-with_segment, length-with_segments, others_of_all}
 
 -- a byte of two memories after the same was done to both: the same in both, or what each had there
 abbrev Settled : ℕ → List ℕ → List ℕ → List ℕ → List ℕ → Type 0
@@ -29,48 +29,15 @@ settled_both k one two one_between two_between one_after two_after first (inl sa
 settled_both k one two one_between two_between one_after two_after (inl same) (inr kept) = inl (kept.0 ∙ same ∙ sym kept.1)
 settled_both k one two one_between two_between one_after two_after (inr before) (inr kept) = inr (kept.0 ∙ before.0, kept.1 ∙ before.1)
 
--- the first of a list, and the others
-first_of_all : {X : Type 0} (P : X → Type 0) (x : X) (xs : List X) → All P (x ∷ xs) → P x
-first_of_all P x xs all = all 0 x (omega arith)
-
-others_of_all : {X : Type 0} (P : X → Type 0) (x : X) (xs : List X) → All P (x ∷ xs) → All P xs
-others_of_all P x xs all = λ k d within. all (suc k) d (omega arith)
-
 module _ (private shared : ℕ) (low : private ≤ shared_base) where
-  -- a segment that begins in shared memory ends there
-  ends_inside : (segment : Segment) → shared_base ≤ segment.at → segment.at < shared_base + shared → IsPlaced private shared segment → FitsItsSize segment →
-      segment.at - shared_base + length (content_of segment) ≤ shared
-  ends_inside segment from under placed fits =
-      let zeros : length (replicate {A = ℕ} (segment.size - length segment.bytes) 0) ≡ segment.size - length segment.bytes =
-      length-replicate (segment.size - length segment.bytes) 0
-      in
-      let long : length (content_of segment) ≡ length segment.bytes + length (replicate {A = ℕ} (segment.size - length segment.bytes) 0) =
-      length-append segment.bytes (replicate (segment.size - length segment.bytes) 0)
-      in
-      omega (arith, placed)
-
-  -- a segment leaves the memory as long as it was
-  length-with_segment : (memory : List ℕ) (segment : Segment) → length memory ≡ shared → IsPlaced private shared segment → FitsItsSize segment →
+  laid : (memory : List ℕ) (segment : Segment) → length memory ≡ shared → IsPlaced private shared segment → FitsItsSize segment →
       length (with_segment shared_base memory segment) ≡ shared
-  length-with_segment memory segment sized placed fits = elim (cases_lt segment.at shared_base) [
-    | inl below ↦ ap length (with_segment_elsewhere shared_base memory segment (inl below)) ∙ sized
-    | inr from ↦ elim (cases_lt segment.at (shared_base + shared)) [
-      | inl under ↦
-          ap length (with_segment_inside shared_base memory segment from (omega (arith, sized)))
-          ∙ length-overwritten memory (content_of segment) (segment.at - shared_base) (omega (arith, sized, ends_inside segment from under placed fits))
-          ∙ sized
-      | inr behind ↦ ap length (with_segment_elsewhere shared_base memory segment (inr (omega (arith, sized)))) ∙ sized
-    ]
-  ]
+  laid memory segment sized placed fits =
+      length-with_segment shared_base shared memory segment sized (ends_in_shared private shared low segment placed fits)
 
-  -- so do segments
-  length-with_segments : (memory : List ℕ) (segments : List Segment) → length memory ≡ shared → All (IsPlaced private shared) segments → All FitsItsSize segments →
+  all_laid : (memory : List ℕ) (segments : List Segment) → length memory ≡ shared → All (IsPlaced private shared) segments → All FitsItsSize segments →
       length (fold (with_segment shared_base) memory segments) ≡ shared
-  length-with_segments memory [] sized placed fits = sized
-  length-with_segments memory (segment ∷ segments) sized placed fits =
-      length-with_segments (with_segment shared_base memory segment) segments
-      (length-with_segment memory segment sized (first_of_all (IsPlaced private shared) segment segments placed) (first_of_all FitsItsSize segment segments fits))
-      (others_of_all (IsPlaced private shared) segment segments placed) (others_of_all FitsItsSize segment segments fits)
+  all_laid = length-with_segments private shared low shared_base shared (ends_in_shared private shared low)
 
   -- a byte of two memories after a segment
   settled_by_segment : (k : ℕ) (one two : List ℕ) (segment : Segment) → length one ≡ shared → length two ≡ shared → IsPlaced private shared segment → FitsItsSize segment →
@@ -78,7 +45,7 @@ module _ (private shared : ℕ) (low : private ≤ shared_base) where
   settled_by_segment k one two segment sized same placed fits = elim (cases_lt segment.at shared_base) [
     | inl below ↦ kept (inl below) (inl below)
     | inr from ↦ elim (cases_lt segment.at (shared_base + shared)) [
-      | inl under ↦ laid from under
+      | inl under ↦ written from under
       | inr behind ↦ kept (inr (omega (arith, sized))) (inr (omega (arith, same)))
     ]
   ]
@@ -91,10 +58,10 @@ module _ (private shared : ℕ) (low : private ≤ shared_base) where
             ap (λ (memory : List ℕ). get_or memory k 0) (with_segment_elsewhere shared_base two segment second),
           )
 
-      laid : shared_base ≤ segment.at → segment.at < shared_base + shared → Settled k one two (with_segment shared_base one segment) (with_segment shared_base two segment)
-      laid from under =
+      written : shared_base ≤ segment.at → segment.at < shared_base + shared → Settled k one two (with_segment shared_base one segment) (with_segment shared_base two segment)
+      written from under =
           let at = segment.at - shared_base in
-          let ends = ends_inside segment from under placed fits in
+          let ends = ends_in_shared private shared low segment placed fits from under in
           let one_is : get_or (with_segment shared_base one segment) k 0 ≡ get_or (overwritten one (segment.at - shared_base) (content_of segment)) k 0 =
           ap (λ (memory : List ℕ). get_or memory k 0) (with_segment_inside shared_base one segment from (omega (arith, sized)))
           in
@@ -130,17 +97,17 @@ module _ (private shared : ℕ) (low : private ≤ shared_base) where
       (fold (with_segment shared_base) (with_segment shared_base one segment) segments) (fold (with_segment shared_base) (with_segment shared_base two segment) segments)
       (settled_by_segment k one two segment sized same (first_of_all (IsPlaced private shared) segment segments placed) (first_of_all FitsItsSize segment segments fits))
       (settled_by_segments k (with_segment shared_base one segment) (with_segment shared_base two segment) segments
-      (length-with_segment one segment sized (first_of_all (IsPlaced private shared) segment segments placed) (first_of_all FitsItsSize segment segments fits))
-      (length-with_segment two segment same (first_of_all (IsPlaced private shared) segment segments placed) (first_of_all FitsItsSize segment segments fits))
+      (laid one segment sized (first_of_all (IsPlaced private shared) segment segments placed) (first_of_all FitsItsSize segment segments fits))
+      (laid two segment same (first_of_all (IsPlaced private shared) segment segments placed) (first_of_all FitsItsSize segment segments fits))
       (others_of_all (IsPlaced private shared) segment segments placed) (others_of_all FitsItsSize segment segments fits))
 
   -- segments that are laid again
   laid_again : (memory : List ℕ) (segments : List Segment) → length memory ≡ shared → All (IsPlaced private shared) segments → All FitsItsSize segments →
       fold (with_segment shared_base) (fold (with_segment shared_base) memory segments) segments ≡ fold (with_segment shared_base) memory segments
   laid_again memory segments sized placed fits =
-      let first : length (fold (with_segment shared_base) memory segments) ≡ shared = length-with_segments memory segments sized placed fits in
+      let first : length (fold (with_segment shared_base) memory segments) ≡ shared = all_laid memory segments sized placed fits in
       let second : length (fold (with_segment shared_base) (fold (with_segment shared_base) memory segments) segments) ≡ shared =
-      length-with_segments (fold (with_segment shared_base) memory segments) segments first placed fits
+      all_laid (fold (with_segment shared_base) memory segments) segments first placed fits
       in
       same_number_lists _ _ (second ∙ sym first)
       (λ k low. settled k (settled_by_segments k memory (fold (with_segment shared_base) memory segments) segments sized first placed fits))

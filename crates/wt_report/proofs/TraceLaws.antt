@@ -19,7 +19,7 @@ use Rattle.node.specs.Sound.{IsNode}
 use Rattle.node.specs.Laws.{Fits, IsDueAt, IsCounted}
 use Rattle.node.proofs.EventKept.{machines_are_simulations}
 use Rattle.quantum.specs.World.{World}
-use Rattle.wt_report.specs.Trace.{IsWorldOf}
+use Rattle.quantum.specs.Starts.{IsWorldOf}
 
 module _ (machine : MachineParts) (is : IsMachine machine) where
   pub laws : IsSimulation (wind_tunnel machine) (IsNode machine) (Fits machine)

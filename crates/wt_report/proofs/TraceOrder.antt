@@ -25,15 +25,18 @@ use Rattle.discrete_events.proofs.Keys.{less_trans}
 use Rattle.discrete_events.proofs.Events.{IsEventBelow, least_in}
 use Rattle.discrete_events.proofs.Numbered.{numbered_up_to, numbered_below, single_flat}
 use Rattle.discrete_events.proofs.SerialRun.{serial-zero, serial-suc, stepped_rises, world_of_serial}
-use Rattle.image_loader.specs.Images.{LoadedImages}
+use Rattle.image_loader.specs.Images.{LoadedImages, IsFor}
+use Rattle.image_loader.specs.Loading.{AreLoaded}
 use Rattle.node.specs.declared.state.NodeState.{NodeState}
 use Rattle.node.specs.React.{logged, react, record_of, wind_tunnel}
 use Rattle.node.specs.Sound.{IsNode}
 use Rattle.node.specs.Laws.{Fits}
 use Rattle.node.specs.Start.{start_node}
 use Rattle.quantum.specs.World.{World}
+use Rattle.quantum.specs.Starts.{IsWorldOf}
+use Rattle.quantum.proofs.AtStart.{starts_are_worlds}
 use Rattle.wt_report.specs.Report.{logs_of}
-use Rattle.wt_report.specs.Trace.{recorded_by, recorded_of, handled_at, history, IsWorldOf, IsTracedStart, traced_start, traced_end, whole_history, TraceIsSerial}
+use Rattle.wt_report.specs.Trace.{recorded_by, recorded_of, handled_at, history, IsTracedStart, traced_start, traced_end, whole_history, TraceIsSerial}
 use Rattle.wt_report.proofs.TraceLemmas.{each_of_all}
 use Rattle.wt_report.proofs.TraceLaws as at_least
 
@@ -200,8 +203,8 @@ pub trace_is_serial : TraceIsSerial
 trace_is_serial machine is = record {
   any = merged_logs machine is;
   whole = whole;
-  text = λ loaded ok. ap (flat_map (line_of machine)) (whole loaded ok);
+  text = λ loaded for are. ap (flat_map (line_of machine)) (whole loaded for are);
 }
   where
-    whole : (loaded : LoadedImages) → IsWorldOf machine (traced_start machine loaded) → merge_of (logs_of (traced_end machine loaded).nodes) ≡ whole_history machine loaded
-    whole loaded ok = merged_logs machine is (machine.nodes * machine.event_limit) (traced_start machine loaded) (is_traced_start machine loaded ok)
+    whole : (loaded : LoadedImages) → IsFor machine loaded → AreLoaded loaded → merge_of (logs_of (traced_end machine loaded).nodes) ≡ whole_history machine loaded
+    whole loaded for are = merged_logs machine is (machine.nodes * machine.event_limit) (traced_start machine loaded) (is_traced_start machine loaded (starts_are_worlds machine loaded true is for are).world_of)

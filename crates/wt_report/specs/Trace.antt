@@ -10,13 +10,13 @@ use Rattle.wt_trace.specs.Merged.{merge_of}
 use Rattle.discrete_events.specs.Simulation.{Event}
 use Rattle.discrete_events.specs.World.{events_in, least}
 use Rattle.discrete_events.specs.Serial.{is_for, serial, final}
-use Rattle.discrete_events.specs.Laws.{IsIn, IsWorld}
-use Rattle.image_loader.specs.Images.{LoadedImages}
+use Rattle.discrete_events.specs.Laws.{IsIn}
+use Rattle.image_loader.specs.Images.{LoadedImages, IsFor}
+use Rattle.image_loader.specs.Loading.{AreLoaded}
 use Rattle.node.specs.declared.state.NodeState.{NodeState}
 use Rattle.node.specs.React.{record_of, wind_tunnel}
-use Rattle.node.specs.Sound.{IsNode}
-use Rattle.node.specs.Laws.{Fits}
 use Rattle.quantum.specs.World.{World, start_of}
+use Rattle.quantum.specs.Starts.{IsWorldOf}
 use Rattle.wt_report.specs.Report.{logs_of, trace_text}
 
 -- what a node records of an event, where the event is for it
@@ -39,10 +39,6 @@ history machine zero world = []
 history machine (suc n) world =
     history machine n world ++ handled_at machine (serial (wind_tunnel machine) n world)
 
--- a world that the simulation of a machine may come to
-abbrev pub IsWorldOf : MachineParts → World → Type 0
-IsWorldOf machine world = IsWorld (wind_tunnel machine) (IsNode machine) (Fits machine) world
-
 -- a world of nodes that are all traced, and have recorded nothing so far
 pub record IsTracedStart (machine : MachineParts) (world : World) : Type 0 where
   pub is_world : IsWorldOf machine world
@@ -64,9 +60,9 @@ whole_history machine loaded = history machine (machine.nodes * machine.event_li
 pub record IsSerialTrace (machine : MachineParts) : Type 0 where
   pub any : (n : ℕ) (world : World) → IsTracedStart machine world →
       merge_of (logs_of (serial (wind_tunnel machine) n world).nodes) ≡ history machine n world
-  pub whole : (loaded : LoadedImages) → IsWorldOf machine (traced_start machine loaded) →
+  pub whole : (loaded : LoadedImages) → IsFor machine loaded → AreLoaded loaded →
       merge_of (logs_of (traced_end machine loaded).nodes) ≡ whole_history machine loaded
-  pub text : (loaded : LoadedImages) → IsWorldOf machine (traced_start machine loaded) →
+  pub text : (loaded : LoadedImages) → IsFor machine loaded → AreLoaded loaded →
       trace_text machine (traced_end machine loaded).nodes ≡ flat_map (line_of machine) (whole_history machine loaded)
 
 abbrev pub TraceIsSerial : Type 0

@@ -3,12 +3,11 @@ use Rattle.std.proofs.Common.{◌≡◌, ℕ, suc, zero, ◌+◌, ◌<◌, Bool,
 use Rattle.std.specs.Prelude.{All, slice_index_or}
 use Rattle.wt_params.specs.declared.parts.MachineParts.{MachineParts}
 use Rattle.wt_params.specs.Machine.{IsMachine}
-use Rattle.image_loader.specs.Images.{LoadedImages}
-use Rattle.discrete_events.specs.Laws.{IsNumbered, IsWorld}
+use Rattle.image_loader.specs.Images.{LoadedImages, IsFor}
+use Rattle.image_loader.specs.Loading.{AreLoaded}
+use Rattle.discrete_events.specs.Laws.{IsNumbered}
 use Rattle.discrete_events.specs.Serial.{final}
-use Rattle.node.specs.Laws.{Fits}
 use Rattle.node.specs.React.{wind_tunnel}
-use Rattle.node.specs.Sound.{IsNode}
 use Rattle.wt_stats.specs.declared.head.Head.{Head}
 use Rattle.wt_trace.specs.Merged.{merge_of}
 use Rattle.quantum.specs.Outcome.{head_of, outcome_of}
@@ -31,7 +30,6 @@ pub record IsOnItsWay (machine : MachineParts) (loaded : LoadedImages) (traced :
   pub machine_is : engine.machine ≡ machine
   pub unbroken : IsUnbroken engine
   pub numbers : IsMachine machine
-  pub start : IsWorld (wind_tunnel machine) (IsNode machine) (Fits machine) (start_of machine loaded traced)
   pub end : final (wind_tunnel machine) (world_of engine) ≡ final_of machine loaded traced
 
 pub from_the_start : (machine : MachineParts) (loaded : LoadedImages) (traced : Bool) (engine : EngineModel) → engine.machine ≡ machine → IsUnbroken engine → IsRunning engine → world_of engine ≡ start_of machine loaded traced → IsOnItsWay machine loaded traced engine
@@ -39,18 +37,15 @@ from_the_start machine loaded traced engine machine_is unbroken running start = 
   machine_is = machine_is;
   unbroken = unbroken;
   numbers = subst IsMachine machine_is running.numbers;
-  start = subst (λ (w : World). IsWorld (wind_tunnel machine) (IsNode machine) (Fits machine) w) start (subst (λ (m : MachineParts). IsWorld (wind_tunnel m) (IsNode m) (Fits m) (world_of engine)) machine_is running.world);
   end = ap (final (wind_tunnel machine)) start;
 }
 
 pub at_the_end : (machine : MachineParts) (loaded : LoadedImages) (traced : Bool) (before after : EngineModel) → IsOnItsWay machine loaded traced before → world_of after ≡ final (wind_tunnel before.machine) (world_of before) → world_of after ≡ final_of machine loaded traced
 at_the_end machine loaded traced before after way last = last ∙ ap (λ (m : MachineParts). final (wind_tunnel m) (world_of before)) way.machine_is ∙ way.end
 
-pub in_serial_order : (machine : MachineParts) (loaded : LoadedImages) (traced : Bool) (world : World) → IsMachine machine → IsWorld (wind_tunnel machine) (IsNode machine) (Fits machine) (start_of machine loaded traced) →
-    world ≡ final_of machine loaded traced → AreInSerialOrder machine loaded traced world
-in_serial_order machine loaded traced world numbers start is asked =
-    let traced_start = subst (λ (t : Bool). IsWorld (wind_tunnel machine) (IsNode machine) (Fits machine) (start_of machine loaded t)) asked start in
-    ap (λ (w : World). merge_of (logs_of w.nodes)) (is ∙ ap (final_of machine loaded) asked) ∙ (trace_is_serial machine numbers).whole loaded traced_start
+pub in_serial_order : (machine : MachineParts) (loaded : LoadedImages) (traced : Bool) (world : World) → IsMachine machine → IsFor machine loaded → AreLoaded loaded → world ≡ final_of machine loaded traced → AreInSerialOrder machine loaded traced world
+in_serial_order machine loaded traced world numbers for are is asked =
+    ap (λ (w : World). merge_of (logs_of w.nodes)) (is ∙ ap (final_of machine loaded) asked) ∙ (trace_is_serial machine numbers).whole loaded for are
 
 -- ---- the stations of a machine
 

@@ -22,6 +22,8 @@ pub fn simulate(
     ensures unbroken { IfOk result IsUnbroken }
     ensures order { IfOk result (λ engine. AreInSerialOrder machine.now loaded.now traced (world_of engine)) }
 {
+    // Images that are kept can be loaded, so the start is a world.
+    let _images = loaded.images();
     let mut engine = Engine::new(alloc, *machine, loaded, traced)?;
     engine.run_plain()?;
     Ok(engine)

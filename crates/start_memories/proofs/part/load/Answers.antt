@@ -11,7 +11,7 @@ returns-then-images-eq1 c =
     let loaded = c.args.loaded.now in
     let machine = c.args.machine.now in
     let image = c.image.result.now in
-    let single : length loaded.images ≡ 1 = ap length (sym c.images.ensures) ∙ c.if-images-eq1.true in
+    let single : length loaded.images ≡ 1 = ap length (sym c.images.ensures.value) ∙ c.if-images-eq1.true in
     part_of_shared machine loaded c.args.start c.args.part.now c.lay_image.new.part image.segments c.requires.images
     c.requires.zero c.requires.inside c.lay_image.auto.part
     (one_image_once machine loaded image c.parts-nodes.ensures.machine c.requires.images single c.image.ensures.value c.image.ensures.program)

@@ -35,5 +35,5 @@ returns g c =
     writes_then
     (written_then (written_by c.in_ok-write_version.ensures)
     (written_by (writes_same (Ok c.in_ok-write_fields.field-0) same c.in_ok-write_fields.ensures)))
-    (writes_same c.write_images.result (ap (λ images. flat_map image_line_of (enumerate_from 0 images)) c.images.ensures)
+    (writes_same c.write_images.result (ap (λ images. flat_map image_line_of (enumerate_from 0 images)) c.images.ensures.value)
     c.write_images.ensures)

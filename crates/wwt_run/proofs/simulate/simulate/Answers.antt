@@ -11,5 +11,5 @@ returns-clause-world c =
 pub returns-clause-order : goal.returns-clause-order
 returns-clause-order c =
     let way = from_the_start c.args.machine.now c.args.loaded.now c.args.traced c.in_ok-engine.engine c.in_ok-engine.ensures.machine c.in_ok-engine.ensures.unbroken c.in_ok-engine.ensures.running c.in_ok-engine.ensures.start in
-    in_serial_order c.args.machine.now c.args.loaded.now c.args.traced (world_of c.run_plain.new.self) way.numbers way.start
+    in_serial_order c.args.machine.now c.args.loaded.now c.args.traced (world_of c.run_plain.new.self) way.numbers c.requires c.images-images.ensures.loaded
     (at_the_end c.args.machine.now c.args.loaded.now c.args.traced c.in_ok-engine.engine c.run_plain.new.self way c.in_ok-run_plain.ensures.end)
