@@ -85,7 +85,8 @@ abbrev put_by : Stamped → Stamped → List Stamped → Ordering → List (Key 
 put_by message m ms r =
     by_order r ((key_of message, message.msg) ∷ entries_of (m ∷ ms)) ((key_of m, message.msg) ∷ entries_of ms) ((key_of m, m.msg) ∷ put key_cmp (key_of message) message.msg (entries_of ms))
 
-turned : (a b : Key) (r : Ordering) → key_cmp b a ≡ r → key_cmp a b ≡ ordering_reverse r
+-- how two keys compare, from how they compare the other way round
+pub turned : (a b : Key) (r : Ordering) → key_cmp b a ≡ r → key_cmp a b ≡ ordering_reverse r
 turned a b r is = key_cmp_total.antisymm a b ∙ ap ordering_reverse is
 
 -- In a list without its key, a message in its place is an entry in its place.

@@ -4,7 +4,11 @@
 //! [`insert`](Queue::insert), [`peek`](Queue::peek) and [`pop`](Queue::pop) takes exactly one.
 #![tactic(auto)]
 
+mod occupied;
 mod queue;
+mod ring;
+mod slots;
+mod sorted;
 mod steps;
 
 pub use queue::Queue;

@@ -1,11 +1,12 @@
-ghost use Rattle.std.specs.Prelude.{◌≡◌, ◌+◌, ◌≤◌, true, false, [], ◌∷◌, length, IfErr, OnOk, OnErr, MatchOption};
-ghost use Rattle.std.specs.List.{AllWithin};
+ghost use Rattle.std.specs.Prelude.{◌≡◌, ◌+◌, [], ◌∷◌, IfErr, OnOk, OnErr, MatchOption};
 ghost use Rattle.wt_proto.specs.Messages.{key_of};
-ghost use Rattle.event_queue.specs.Rising.{IsRising, HasNoKey, is_before, insert_of, peek_of};
+ghost use Rattle.event_queue.specs.Rising.{IsRising, HasNoKey, insert_of, peek_of};
+ghost use Rattle.event_queue.specs.Merging.{is_sooner};
 
+use crate::ring::Ring;
+use crate::sorted::Sorted;
 use crate::steps::Steps;
 use std::alloc::Global;
-use std::collections::VecDeque;
 use std::marker::Model;
 use std::sync::ledger::Ledger;
 use wt_proto::{Back, Key, Stamped};
@@ -13,19 +14,22 @@ use wt_proto::{Back, Key, Stamped};
 /// Messages, the one of the least key first. No two have the same key. Contracts see them as a list.
 #[derive(Debug, Drop)]
 pub struct Queue {
-    messages: VecDeque<Stamped>,
+    /// The messages of the cycles that are near.
+    ring: Ring,
+    /// All others. A message stays where it was put.
+    far: Sorted,
 }
 
 impl Model for Queue {
     ghost use Rattle.std.specs.Prelude.{List};
     ghost use Rattle.wt_proto.specs.declared.message.Stamped.{Stamped};
-    ghost use Rattle.event_queue.specs.Rising.{IsRising};
+    ghost use Rattle.event_queue.specs.Merging.{AreParts, merged};
 
     ghost Value = { List Stamped };
 
-    ghost view = { λ queue. queue.messages.items };
+    ghost view = { λ queue. merged queue.ring.messages queue.far };
 
-    ghost invariant = { λ queue. IsRising queue.messages.items };
+    ghost invariant = { λ queue. AreParts queue.ring.messages queue.far };
 }
 
 impl Queue {
@@ -34,16 +38,9 @@ impl Queue {
         ensures { result ≡ [] }
     {
         Queue {
-            messages: VecDeque::new(alloc),
+            ring: Ring::new(alloc),
+            far: Sorted::new(alloc),
         }
-    }
-
-    /// How many messages there are.
-    pub fn len(&self) -> u64
-        ensures value { result ≡ length self.now }
-        ensures rising { IsRising self.now }
-    {
-        self.messages.len() as u64
     }
 
     /// Puts a message in its place by its key. Where memory is refused, the message comes back and the queue stays
@@ -57,23 +54,11 @@ impl Queue {
         ensures step { steps.new ≡ steps.old + 1 }
     {
         steps.tick();
-        let place = self.place(message.key());
-        match self.messages.insert(place, message) {
-            Ok(()) => Ok(()),
-            Err(refused) => Err(Back {
-                message: refused.value,
-            }),
+        if self.ring.is_near(message.time) {
+            self.ring.insert(message)
+        } else {
+            self.far.insert(message)
         }
-    }
-
-    /// The place for a message of this key: all those before it have lesser keys, and no other has.
-    fn place(&self, key: Key) -> usize
-        ensures bound { result ≤ length self.now }
-        ensures before { AllWithin (λ message. is_before key message ≡ true) self.now 0 result }
-        ensures after { AllWithin (λ message. is_before key message ≡ false) self.now result (length self.now) }
-    {
-        self.messages
-            .partition_point(|message| message.key().cmp(&key).is_lt())
     }
 
     /// The least key. None exactly where there is no message.
@@ -82,9 +67,10 @@ impl Queue {
         ensures rising { IsRising self.now }
         ensures step { steps.new ≡ steps.old + 1 }
     {
-        let first = self.messages.front();
         steps.tick();
-        first.map(|message| message.key())
+        let near = self.ring.peek();
+        let far = self.far.peek();
+        if is_sooner(near, far) { near } else { far }
     }
 
     /// Takes the message of the least key out. None exactly where there is no message.
@@ -94,6 +80,21 @@ impl Queue {
         ensures step { steps.new ≡ steps.old + 1 }
     {
         steps.tick();
-        self.messages.pop_front()
+        if is_sooner(self.ring.peek(), self.far.peek()) {
+            self.ring.pop()
+        } else {
+            self.far.pop()
+        }
+    }
+}
+
+/// Whether the first of the near messages comes before the first of the far ones.
+fn is_sooner(near: Option<Key>, far: Option<Key>) -> bool
+    ensures { result ≡ is_sooner near far }
+{
+    match (near, far) {
+        (None, _) => false,
+        (Some(_), None) => true,
+        (Some(near), Some(far)) => near < far,
     }
 }

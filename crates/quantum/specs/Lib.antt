@@ -1,3 +1,4 @@
+pub mod Counted
 pub mod World
 pub mod Outcome
 pub mod Stations

@@ -4,6 +4,7 @@
 //! [`Station::run_to`] handles exactly the node's own events before a time.
 #![tactic(auto)]
 
+mod counted_queue;
 mod quanta;
 mod site;
 mod starts;

@@ -7,8 +7,9 @@ ghost use Rattle.quantum.specs.FreeRuns.{IsFree, IsHandedOut, run_to_of};
 ghost use Rattle.quantum.specs.Sites.{IsLookedAt, IsSite, IsTurn, Handles, HandsOut, MayHandOut, before_of, first_time_of, is_message_of, least_time_at, run_up_to};
 ghost use Rattle.quantum.specs.Stations.{station_of};
 
+use crate::counted_queue::CountedQueue;
 use crate::quanta::Quanta;
-use event_queue::{Queue, Steps};
+use event_queue::Steps;
 use image_loader::Loaded;
 use node::Node;
 use std::alloc::Global;
@@ -20,7 +21,7 @@ use wt_proto::StampedList;
 #[derive(Drop)]
 pub struct Site {
     pub node: Node,
-    pub queue: Queue,
+    pub queue: CountedQueue,
 }
 
 /// What a node does next.
@@ -52,7 +53,7 @@ impl Site {
         let node = Node::new(alloc, machine, number, loaded, traced)?;
         Ok(Site {
             node,
-            queue: Queue::new(alloc),
+            queue: CountedQueue::new(alloc),
         })
     }
 

@@ -4,7 +4,7 @@ use Rattle.std.specs.List.{AllWithin}
 use Rattle.wt_proto.specs.declared.message.Stamped.{Stamped}
 use Rattle.event_queue.specs.Rising.{is_before}
 use Rattle.event_queue.proofs.RisingLaws.{earlier_before}
-use Rattle.event_queue.proofs.queue.Queue.place.Goals as goal
+use Rattle.event_queue.proofs.sorted.Sorted.place.Goals as goal
 
 pub returns-clause-before : goal.returns-clause-before
 returns-clause-before c =
