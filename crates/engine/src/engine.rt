@@ -1,6 +1,7 @@
 ghost use Rattle.std.specs.Prelude.{◌≡◌, ◌+◌, ◌<◌, ◌≤◌, ◌*◌, true, All, IfOk, OnErr, OnOk, length};
 ghost use Rattle.discrete_events.specs.Round.{quantum_end};
 ghost use Rattle.discrete_events.specs.Serial.{final};
+ghost use Rattle.wt_params.specs.Machine.{InRange};
 ghost use Rattle.image_loader.specs.Images.{IsFor};
 ghost use Rattle.node.specs.React.{wind_tunnel};
 ghost use Rattle.quantum.specs.Outcome.{head_of};
@@ -91,6 +92,7 @@ impl Engine {
         ensures machine { IfOk result (λ engine. engine.machine ≡ machine) }
         ensures unbroken { IfOk result IsUnbroken }
         ensures running { IfOk result IsRunning }
+        ensures threaded { IfOk result (λ engine. engine.threaded ≡ 0) }
     {
         let mut stations = Vec::new(alloc);
         for number in 0..machine.parts().nodes as u32 {
@@ -158,7 +160,7 @@ impl Engine {
         workers: u32,
         gate: &G,
     ) -> Result<Round, NoMemory>
-        requires workers { (1 ≤ workers) × (workers ≤ 16) }
+        requires workers { InRange 1 16 workers }
         ensures goes { GoesRound self.old self.new result }
         ensures threaded { IfOk result (λ round. self.new.threaded ≡ threaded_after round self.old.threaded) }
     {
@@ -259,7 +261,7 @@ impl Engine {
         workers: u32,
         gate: &G,
     ) -> Result<(), NoMemory>
-        requires workers { (1 ≤ workers) × (workers ≤ 16) }
+        requires workers { InRange 1 16 workers }
         ensures end { OnOk result (world_of self.new ≡ final (sim_of self.old) (world_of self.old)) }
         ensures unbroken { OnOk result (IsUnbroken self.old × IsUnbroken self.new) }
         ensures machine { self.new.machine ≡ self.old.machine }

@@ -62,19 +62,17 @@ of_check command machine name view old new result is same read =
     subst (λ (c : Command). Reads (command_plan (Some c)) view old new result) (sym is)
     (subst (λ (n : List ℕ). Reads (check_plan n) view old new result) same read)
 
--- a run or a load by one worker
-pub of_run : {S : Type 0} (command : Command) (workers : ℕ) (trace memory : Bool) (budget : Option ℕ) (machine name : List ℕ) (view : StoreView S) (old new : S) (result : Result Job Refusal) → command ≡ commands.Run workers trace memory budget machine → workers ≡ 1 → name ≡ machine →
-    Reads (run_plan name budget trace memory) view old new result → Reads (command_plan (Some command)) view old new result
-of_run command workers trace memory budget machine name view old new result is one same read =
+-- a run or a load
+pub of_run : {S : Type 0} (command : Command) (workers : ℕ) (trace memory : Bool) (budget : Option ℕ) (machine name : List ℕ) (view : StoreView S) (old new : S) (result : Result Job Refusal) → command ≡ commands.Run workers trace memory budget machine → name ≡ machine →
+    Reads (run_plan name workers budget trace memory) view old new result → Reads (command_plan (Some command)) view old new result
+of_run command workers trace memory budget machine name view old new result is same read =
     subst (λ (c : Command). Reads (command_plan (Some c)) view old new result) (sym is)
-    (subst (λ (n : ℕ). Reads (command_plan (Some (commands.Run n trace memory budget machine))) view old new result) (sym one)
-    (subst (λ (n : List ℕ). Reads (run_plan n budget trace memory) view old new result) same read))
+    (subst (λ (n : List ℕ). Reads (run_plan n workers budget trace memory) view old new result) same read)
 
-pub of_load : {S : Type 0} (command : Command) (number workers : ℕ) (view : StoreView S) (old new : S) (result : Result Job Refusal) → command ≡ commands.Load number workers → workers ≡ 1 →
-    Reads (generated_plan number) view old new result → Reads (command_plan (Some command)) view old new result
-of_load command number workers view old new result is one read =
-    subst (λ (c : Command). Reads (command_plan (Some c)) view old new result) (sym is)
-    (subst (λ (n : ℕ). Reads (command_plan (Some (commands.Load number n))) view old new result) (sym one) read)
+pub of_load : {S : Type 0} (command : Command) (number workers : ℕ) (view : StoreView S) (old new : S) (result : Result Job Refusal) → command ≡ commands.Load number workers →
+    Reads (generated_plan number workers) view old new result → Reads (command_plan (Some command)) view old new result
+of_load command number workers view old new result is read =
+    subst (λ (c : Command). Reads (command_plan (Some c)) view old new result) (sym is) read
 
 pub of_dis : {S : Type 0} (command : Command) (image name : List ℕ) (view : StoreView S) (old new : S) (result : Result Job Refusal) → command ≡ commands.Dis image → name ≡ image → Reads (dis_plan name) view old new result → Reads (command_plan (Some command)) view old new result
 of_dis command image name view old new result is same read =
@@ -131,9 +129,9 @@ load_no_usage loaded (Some (faults.Outside number address)) made = refl
 load_no_usage loaded (Some (faults.BadEntry number entry)) made = refl
 load_no_usage loaded (Some faults.NoMemory) made = refl
 
-generated_no_usage : (number : ℕ) → is_usage (generated_plan number) ≡ false
-generated_no_usage number =
-    no_usage_then (machine_plan (generated number)) (λ described. Give (load_of described))
+generated_no_usage : (number workers : ℕ) → is_usage (generated_plan number workers) ≡ false
+generated_no_usage number workers =
+    no_usage_then (machine_plan (generated number)) (λ described. Give (load_of workers described))
     (no_usage_then (images_plan [] 0 (generated number).images) (λ images. Give (loaded_machine (generated number).machine images))
     (images_no_usage [] 0 (generated number).images)
     (λ images. load_no_usage (loaded_with (generated number).machine images) (load_fault (generated number).machine 0 images) (λ loaded. record { machine = (generated number).machine; loaded = loaded })))
@@ -143,24 +141,8 @@ generated_no_usage number =
 pub usage_as : {command other : Command} → command ≡ other → is_usage (command_plan (Some command)) ≡ is_usage (command_plan (Some other))
 usage_as is = ap (λ (c : Command). is_usage (command_plan (Some c))) is
 
-module _ (command : Command) (workers : ℕ) where
-  pub no_usage_of_run : (trace memory : Bool) (budget : Option ℕ) (machine : List ℕ) → command ≡ commands.Run workers trace memory budget machine → workers ≡ 1 → is_usage (command_plan (Some command)) ≡ false
-  no_usage_of_run trace memory budget machine is one =
-      usage_as is ∙ ap (λ (n : ℕ). is_usage (command_plan (Some (commands.Run n trace memory budget machine)))) one
-
-  pub no_usage_of_load : (number : ℕ) → command ≡ commands.Load number workers → workers ≡ 1 → is_usage (command_plan (Some command)) ≡ false
-  no_usage_of_load number is one =
-      usage_as is ∙ ap (λ (n : ℕ). is_usage (command_plan (Some (commands.Load number n)))) one ∙ generated_no_usage number
-
-  pub usage_of_run : (trace memory : Bool) (budget : Option ℕ) (machine : List ℕ) → command ≡ commands.Run workers trace memory budget machine → workers ≢ 1 → is_usage (command_plan (Some command)) ≡ true
-  usage_of_run trace memory budget machine is many =
-      usage_as is
-      ∙ ap (λ (one : Bool). is_usage (cond one (run_plan machine budget trace memory) (Give (Err refusals.Usage)))) (ne_eqb workers 1 many)
-
-  pub usage_of_load : (number : ℕ) → command ≡ commands.Load number workers → workers ≢ 1 → is_usage (command_plan (Some command)) ≡ true
-  usage_of_load number is many =
-      usage_as is
-      ∙ ap (λ (one : Bool). is_usage (cond one (generated_plan number) (Give (Err refusals.Usage)))) (ne_eqb workers 1 many)
+pub no_usage_of_load : (command : Command) (workers number : ℕ) → command ≡ commands.Load number workers → is_usage (command_plan (Some command)) ≡ false
+no_usage_of_load command workers number is = usage_as is ∙ generated_no_usage number workers
 
 pub none_refused : {A B : Type 0} (plan : Plan A) → is_usage plan ≡ false → is_usage plan ≡ true → B
 none_refused plan none usage = absurd (false≢true (sym none ∙ usage))

@@ -1,6 +1,6 @@
 -- The numbers of a command that is read are in their ranges.
 use Rattle.std.proofs.Common.{◌≡◌, ℕ, ◌^◌, ◌≤◌, Bool, true, false, cond, ◌&&◌, List, [], ◌∷◌, Option, Some, None, refl, subst, ap, ◌∙◌, arith}
-use Rattle.std.specs.Prelude.{nat_le, codes, bytes_eq, option_map, IfSome}
+use Rattle.std.specs.Prelude.{nat_le, codes, bytes_eq, option_map, unwrap_or, IfSome}
 use Rattle.std.proofs.lemmas.Bool.Decides.{nat_tests}
 use Rattle.std.specs.Str.Parse.{digits_value}
 use Rattle.clap.specs.Walk.{Row, first_of}
@@ -11,7 +11,7 @@ use Rattle.wwt_words.specs.declared.command.Command.TheVariants as commands
 use Rattle.wwt_words.specs.Numbers.{is_numeral, number_of, option_number_of}
 use Rattle.wwt_words.specs.Declarations.{run_command, check_command, load_command, dis_command, flat_command, is_read, rows_read}
 use Rattle.wwt_words.specs.Words.{is_set, workers_of, budget_of, run_of, check_of, load_of, dis_of, flat_of, read_by, command_named, command_of, ◌>>=◌}
-use Rattle.wwt_case.specs.Case.{HasRanges}
+use Rattle.wwt_case.specs.Case.{AreWorkers, HasRanges}
 
 -- what is read, if anything is, is in its ranges
 abbrev IsGood : Option Command → Type 0
@@ -48,31 +48,40 @@ option_number least greatest None None e = tt
 option_number least greatest None (Some found) e = cc
 option_number least greatest (Some text) found e = some_number least greatest text (number_of least greatest text) refl found e
 
+-- the workers of an option, or the one where nothing is said
+some_workers : (found : Option (Option ℕ)) → ((number : Option ℕ) → found ≡ Some number → IfSome number AreWorkers) → (workers : ℕ) → option_map (λ number. unwrap_or number 1) found ≡ Some workers → AreWorkers workers
+some_workers None good workers e = cc
+some_workers (Some None) good workers e = let one : 1 ≡ workers = cc in record { at_least = omega arith; at_most = omega arith }
+some_workers (Some (Some number)) good workers e = let same : number ≡ workers = cc in subst AreWorkers same (good (Some number) refl)
+
+good_workers : (rows : List Row) (workers : ℕ) → workers_of rows ≡ Some workers → AreWorkers workers
+good_workers rows = some_workers (option_number_of 1 16 (first_of (codes "workers") rows)) (λ number is. option_number 1 16 (first_of (codes "workers") rows) number is)
+
 run_good : (rows : List Row) → IsGood (run_of rows)
-run_good rows = by (workers_of rows) (budget_of rows) refl (first_of (codes "machine") rows)
+run_good rows = by (workers_of rows) refl (budget_of rows) refl (first_of (codes "machine") rows)
   where
-    by : (workers : Option ℕ) (budget : Option (Option ℕ)) → budget_of rows ≡ budget → (machine : Option (List ℕ)) →
+    by : (workers : Option ℕ) → workers_of rows ≡ workers → (budget : Option (Option ℕ)) → budget_of rows ≡ budget → (machine : Option (List ℕ)) →
         IsGood (workers >>= λ w. budget >>= λ b. machine >>= λ m. Some (commands.Run w (is_set (codes "trace") rows) (is_set (codes "memory") rows) b m))
-    by None budget is machine command e = cc
-    by (Some workers) None is machine command e = cc
-    by (Some workers) (Some budget) is None command e = cc
-    by (Some workers) (Some budget) is (Some machine) command e =
+    by None many budget is machine command e = cc
+    by (Some workers) many None is machine command e = cc
+    by (Some workers) many (Some budget) is None command e = cc
+    by (Some workers) many (Some budget) is (Some machine) command e =
         let same : commands.Run workers (is_set (codes "trace") rows) (is_set (codes "memory") rows) budget machine ≡ command = cc in
-        subst HasRanges same (option_number 1 (2 ^ 40) (first_of (codes "budget") rows) budget is)
+        subst HasRanges same (good_workers rows workers many, option_number 1 (2 ^ 40) (first_of (codes "budget") rows) budget is)
 
 load_good : (rows : List Row) → IsGood (load_of rows)
-load_good rows = by (first_of (codes "number") rows) (workers_of rows)
+load_good rows = by (first_of (codes "number") rows)
   where
-    with_number : (number : Option ℕ) → ((n : ℕ) → number ≡ Some n → n ≤ 9999) → (workers : Option ℕ) → IsGood (number >>= λ n. workers >>= λ w. Some (commands.Load n w))
-    with_number None few workers command e = cc
-    with_number (Some number) few None command e = cc
-    with_number (Some number) few (Some workers) command e =
-        let same : commands.Load number workers ≡ command = cc in subst HasRanges same (few number refl)
+    with_number : (number : Option ℕ) → ((n : ℕ) → number ≡ Some n → n ≤ 9999) → (workers : Option ℕ) → workers_of rows ≡ workers → IsGood (number >>= λ n. workers >>= λ w. Some (commands.Load n w))
+    with_number None few workers many command e = cc
+    with_number (Some number) few None many command e = cc
+    with_number (Some number) few (Some workers) many command e =
+        let same : commands.Load number workers ≡ command = cc in subst HasRanges same (few number refl, good_workers rows workers many)
 
-    by : (text : Option (List ℕ)) (workers : Option ℕ) → IsGood (text >>= λ t. number_of 0 9999 t >>= λ n. workers >>= λ w. Some (commands.Load n w))
-    by None workers command e = cc
-    by (Some text) workers command e =
-        with_number (number_of 0 9999 text) (λ n e. (in_range 0 9999 text n e).at_most) workers command e
+    by : (text : Option (List ℕ)) → IsGood (text >>= λ t. number_of 0 9999 t >>= λ n. workers_of rows >>= λ w. Some (commands.Load n w))
+    by None command e = cc
+    by (Some text) command e =
+        with_number (number_of 0 9999 text) (λ n e. (in_range 0 9999 text n e).at_most) (workers_of rows) refl command e
 
 plain_good : (made : List ℕ → Command) → ((text : List ℕ) → HasRanges (made text)) → (text : Option (List ℕ)) → IsGood (option_map made text)
 plain_good made good None command e = cc

@@ -12,6 +12,7 @@ use Rattle.wt_outside.specs.Files.{Files}
 use Rattle.wwt_words.specs.declared.command.Command.{Command}
 use Rattle.wwt_words.specs.declared.command.Command.TheVariants as commands
 use Rattle.wwt_words.specs.Words.{Words, texts_of, command_of}
+use Rattle.wwt_words.specs.Workers.{workers_in}
 use Rattle.wwt_case.specs.declared.job.Job.{Job}
 use Rattle.wwt_case.specs.declared.job.Job.TheVariants.{Check, Dis, Flat, Run, Load}
 use Rattle.wwt_case.specs.declared.job.Described.{Described}
@@ -65,28 +66,28 @@ check_plan name = do
   described ← described_plan name
   Give (check_of described)
 
--- or it is run, up to a budget that takes the place of its own where one is given
+-- or it is run by so many workers, up to a budget that takes the place of its own where one is given
 abbrev pub with_budget_of : Option ℕ → MachineParts → MachineParts
 with_budget_of None machine = machine
 with_budget_of (Some budget) machine = record machine { budget = budget }
 
-abbrev pub run_of : Option ℕ → Bool → Bool → Described → Result Job Refusal
-run_of budget trace memory described =
-    Ok (Run (with_budget_of budget described.machine) described.loaded trace memory)
+abbrev pub run_of : ℕ → Option ℕ → Bool → Bool → Described → Result Job Refusal
+run_of workers budget trace memory described =
+    Ok (Run (with_budget_of budget described.machine) described.loaded workers trace memory)
 
-abbrev pub run_plan : List ℕ → Option ℕ → Bool → Bool → Plan Job
-run_plan name budget trace memory = do
+abbrev pub run_plan : List ℕ → ℕ → Option ℕ → Bool → Bool → Plan Job
+run_plan name workers budget trace memory = do
   described ← described_plan name
-  Give (run_of budget trace memory described)
+  Give (run_of workers budget trace memory described)
 
 -- a generated machine is run; its image is part of its description
-abbrev pub load_of : Described → Result Job Refusal
-load_of described = Ok (Load described.machine described.loaded)
+abbrev pub load_of : ℕ → Described → Result Job Refusal
+load_of workers described = Ok (Load described.machine described.loaded workers)
 
-abbrev pub generated_plan : ℕ → Plan Job
-generated_plan number = do
+abbrev pub generated_plan : ℕ → ℕ → Plan Job
+generated_plan number workers = do
   described ← machine_plan (generated number)
-  Give (load_of described)
+  Give (load_of workers described)
 
 -- a file that begins as an executable does is one, any other is flat
 abbrev pub dis_of : List ℕ → Result Job Refusal
@@ -107,14 +108,13 @@ flat_plan name = do
   bytes ← file name (kinds.Image 0)
   Give (flat_of bytes)
 
--- the plan of a command; two workers or more are refused, as long as they aren't built
+-- the plan of a command
 abbrev pub command_plan : Option Command → Plan Job
 command_plan (Some (commands.Check machine)) = check_plan machine
 command_plan (Some (commands.Dis image)) = dis_plan image
 command_plan (Some commands.Flat) = flat_plan input_name
-command_plan (Some (commands.Run workers trace memory budget machine)) =
-    if workers == 1 then run_plan machine budget trace memory else Give (Err Usage)
-command_plan (Some (commands.Load number workers)) = if workers == 1 then generated_plan number else Give (Err Usage)
+command_plan (Some (commands.Run workers trace memory budget machine)) = run_plan machine workers budget trace memory
+command_plan (Some (commands.Load number workers)) = generated_plan number workers
 command_plan None = Give (Err Usage)
 
 -- the plan of the words of the command line
@@ -133,10 +133,29 @@ names_of words = names_read (plan_of words)
 abbrev pub IsBudget : ℕ → Type 0
 IsBudget budget = InRange 1 (2 ^ 40) budget
 
+-- how many workers do a job, and how many the words call for: one, but for a run or a load that asks for more
+abbrev pub workers_of_job : Job → ℕ
+workers_of_job (Check machine loaded) = 1
+workers_of_job (Dis image) = 1
+workers_of_job (Flat loaded) = 1
+workers_of_job (Run machine loaded workers trace memory) = workers
+workers_of_job (Load machine loaded workers) = workers
+
+abbrev pub workers_of_command : Option Command → ℕ
+workers_of_command None = 1
+workers_of_command (Some command) = workers_in command
+
+abbrev pub workers_called : Words → ℕ
+workers_called words = workers_of_command (command_of (texts_of words))
+
+-- a number of workers that a run may have
+abbrev pub AreWorkers : ℕ → Type 0
+AreWorkers workers = InRange 1 16 workers
+
 -- the numbers of a command are in their ranges
 abbrev pub HasRanges : Command → Type 0
-HasRanges (commands.Run workers trace memory budget machine) = IfSome budget IsBudget
-HasRanges (commands.Load number workers) = number ≤ 9999
+HasRanges (commands.Run workers trace memory budget machine) = AreWorkers workers × IfSome budget IsBudget
+HasRanges (commands.Load number workers) = (number ≤ 9999) × AreWorkers workers
 HasRanges _ = ⊤
 
 -- images that are loaded for the flat machine, flat bytes alone
@@ -153,5 +172,5 @@ abbrev pub IsReady : Job → Type 0
 IsReady (Check machine loaded) = IsFor machine loaded
 IsReady (Dis image) = ⊤
 IsReady (Flat loaded) = IsFlat loaded
-IsReady (Run machine loaded trace memory) = IsFor machine loaded
-IsReady (Load machine loaded) = IsFor machine loaded
+IsReady (Run machine loaded workers trace memory) = IsFor machine loaded × AreWorkers workers
+IsReady (Load machine loaded workers) = IsFor machine loaded × AreWorkers workers

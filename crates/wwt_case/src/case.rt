@@ -1,8 +1,8 @@
-ghost use Rattle.std.specs.Prelude.{◌≡◌, ◌≢◌, ◌≤◌, ◌⊎◌, ◌∷◌, [], Some, Err, All, length, true, IfOk, IfErr, IfSome, IsErrOf};
+ghost use Rattle.std.specs.Prelude.{◌≡◌, ◌≢◌, ◌≤◌, ◌⊎◌, ◌∷◌, [], Some, Err, All, length, IfOk, IfErr, IfSome};
 ghost use Rattle.elf_image.specs.Sizes.{HoldsItsBytes};
 ghost use Rattle.machine_json.specs.Description.{description_of, HasImages};
-ghost use Rattle.wwt_case.specs.Plan.{is_usage};
-ghost use Rattle.wwt_case.specs.Case.{plan_of, command_plan, check_plan, run_plan, with_budget_of, generated_plan, described_plan, machine_plan, loaded_machine, description_plan, description_or, dis_plan, dis_of, flat_plan, flat_of, input_name, HasRanges, IsBudget, IsLoaded, IsReady};
+ghost use Rattle.wwt_case.specs.Case.{plan_of, command_plan, check_plan, run_plan, with_budget_of, generated_plan, described_plan, machine_plan, loaded_machine, description_plan, description_or, dis_plan, dis_of, flat_plan, flat_of, input_name, AreWorkers, HasRanges, IsBudget, IsLoaded, IsReady, workers_called, workers_of_job};
+ghost use Rattle.wwt_words.specs.Workers.{workers_in};
 ghost use Rattle.wwt_case.specs.Reading.{Answers, AnswersUsage, Reads, IsByItsName, IsOther};
 
 use crate::images::{Images, read_images};
@@ -24,6 +24,7 @@ use wwt_words::{Command, WordFault, read_words};
 pub fn prepare<S: Store>(alloc: Global, words: &[String], store: &mut S) -> Result<Job, Refusal>
     ensures read { Reads (plan_of words.now) S.view store.old store.new result }
     ensures usage { AnswersUsage (plan_of words.now) store.old store.new result }
+    ensures workers { IfOk result (λ job. workers_of_job job ≡ workers_called words.now) }
     ensures ready { IfOk result IsReady }
     ensures reads { result ≢ Err Refusal.Write }
     ensures wanting { IfErr result IsByItsName }
@@ -44,7 +45,7 @@ fn prepare_command<S: Store>(
     requires { HasRanges command.now }
     ensures read { Reads (command_plan (Some command.now)) S.view store.old store.new result }
     ensures usage { AnswersUsage (command_plan (Some command.now)) store.old store.new result }
-    ensures refused { is_usage (command_plan (Some command.now)) ≡ true → IsErrOf result Refusal.Usage }
+    ensures workers { IfOk result (λ job. workers_of_job job ≡ workers_in command.now) }
     ensures ready { IfOk result IsReady }
     ensures reads { result ≢ Err Refusal.Write }
     ensures wanting { IfErr result IsByItsName }
@@ -60,25 +61,17 @@ fn prepare_command<S: Store>(
             budget,
             machine,
         } => {
-            if *workers == 1 {
-                prepare_run(alloc, machine.get(), *budget, *trace, *memory, store)
-            } else {
-                Err(Refusal::Usage)
-            }
+            let name = machine.get();
+            prepare_run(alloc, name, *workers, *budget, *trace, *memory, store)
         }
-        Command::Load { number, workers } => {
-            if *workers == 1 {
-                prepare_load(alloc, *number, store)
-            } else {
-                Err(Refusal::Usage)
-            }
-        }
+        Command::Load { number, workers } => prepare_load(alloc, *number, *workers, store),
     }
 }
 
 /// A machine to be printed.
 fn prepare_check<S: Store>(alloc: Global, name: &str, store: &mut S) -> Result<Job, Refusal>
     ensures read { Reads (check_plan name.now) S.view store.old store.new result }
+    ensures workers { IfOk result (λ job. workers_of_job job ≡ 1) }
     ensures ready { IfOk result IsReady }
     ensures other { IsOther result }
 {
@@ -91,17 +84,20 @@ fn prepare_check<S: Store>(alloc: Global, name: &str, store: &mut S) -> Result<J
     }
 }
 
-/// A machine to be run, up to its own budget or up to another.
+/// A machine to be run by so many workers, up to its own budget or up to another.
 fn prepare_run<S: Store>(
     alloc: Global,
     name: &str,
+    workers: u32,
     budget: Option<u64>,
     trace: bool,
     memory: bool,
     store: &mut S,
 ) -> Result<Job, Refusal>
-    requires { IfSome budget IsBudget }
-    ensures read { Reads (run_plan name.now budget trace memory) S.view store.old store.new result }
+    requires workers { AreWorkers workers }
+    requires budget { IfSome budget IsBudget }
+    ensures read { Reads (run_plan name.now workers budget trace memory) S.view store.old store.new result }
+    ensures workers { IfOk result (λ job. workers_of_job job ≡ workers) }
     ensures ready { IfOk result IsReady }
     ensures other { IsOther result }
 {
@@ -109,6 +105,7 @@ fn prepare_run<S: Store>(
         Ok(described) => Ok(Job::Run {
             machine: with_budget(&described.machine, budget),
             loaded: described.loaded,
+            workers,
             trace,
             memory,
         }),
@@ -127,10 +124,17 @@ fn with_budget(machine: &Machine, budget: Option<u64>) -> Machine
     }
 }
 
-/// A generated machine to be run.
-fn prepare_load<S: Store>(alloc: Global, number: u64, store: &mut S) -> Result<Job, Refusal>
-    requires { number ≤ 9999 }
-    ensures read { Reads (generated_plan number) S.view store.old store.new result }
+/// A generated machine to be run by so many workers.
+fn prepare_load<S: Store>(
+    alloc: Global,
+    number: u64,
+    workers: u32,
+    store: &mut S,
+) -> Result<Job, Refusal>
+    requires number { number ≤ 9999 }
+    requires workers { AreWorkers workers }
+    ensures read { Reads (generated_plan number workers) S.view store.old store.new result }
+    ensures workers { IfOk result (λ job. workers_of_job job ≡ workers) }
     ensures ready { IfOk result IsReady }
     ensures other { IsOther result }
 {
@@ -139,6 +143,7 @@ fn prepare_load<S: Store>(alloc: Global, number: u64, store: &mut S) -> Result<J
         Ok(described) => Ok(Job::Load {
             machine: described.machine,
             loaded: described.loaded,
+            workers,
         }),
         Err(refusal) => Err(refusal),
     }
@@ -236,6 +241,7 @@ fn describe(alloc: Global, bytes: &[u8]) -> Result<Description, Refusal>
 /// The image of a name, whose words are to be printed.
 fn prepare_dis<S: Store>(alloc: Global, name: &str, store: &mut S) -> Result<Job, Refusal>
     ensures read { Reads (dis_plan name.now) S.view store.old store.new result }
+    ensures workers { IfOk result (λ job. workers_of_job job ≡ 1) }
     ensures ready { IfOk result IsReady }
     ensures other { IsOther result }
 {
@@ -249,6 +255,7 @@ fn prepare_dis<S: Store>(alloc: Global, name: &str, store: &mut S) -> Result<Job
 /// The image of the bytes of a file, which is an executable where it begins as one does.
 fn dis_job(alloc: Global, bytes: Bytes) -> Result<Job, Refusal>
     ensures answer { Answers (dis_of bytes) result }
+    ensures workers { IfOk result (λ job. workers_of_job job ≡ 1) }
     ensures ready { IfOk result IsReady }
     ensures other { IsOther result }
 {
@@ -262,6 +269,7 @@ fn dis_job(alloc: Global, bytes: Bytes) -> Result<Job, Refusal>
 /// Flat bytes from standard input.
 fn prepare_flat<S: Store>(alloc: Global, store: &mut S) -> Result<Job, Refusal>
     ensures read { Reads (flat_plan input_name) S.view store.old store.new result }
+    ensures workers { IfOk result (λ job. workers_of_job job ≡ 1) }
     ensures ready { IfOk result IsReady }
     ensures other { IsOther result }
 {
@@ -275,6 +283,7 @@ fn prepare_flat<S: Store>(alloc: Global, store: &mut S) -> Result<Job, Refusal>
 /// Flat bytes, loaded into the flat machine.
 fn flat_job(alloc: Global, bytes: Bytes) -> Result<Job, Refusal>
     ensures answer { Answers (flat_of bytes) result }
+    ensures workers { IfOk result (λ job. workers_of_job job ≡ 1) }
     ensures ready { IfOk result IsReady }
     ensures other { IsOther result }
 {

@@ -25,16 +25,18 @@ pub enum Job {
     Flat {
         loaded: Loaded,
     },
-    /// Run a machine, and tell its events, registers and memories where they are asked for.
+    /// Run a machine by so many workers, 1 to 16, and tell its events, registers and memories where they are asked for.
     Run {
         machine: Machine,
         loaded: Loaded,
+        workers: u32,
         trace: bool,
         memory: bool,
     },
-    /// Run a generated machine.
+    /// Run a generated machine by so many workers, 1 to 16.
     Load {
         machine: Machine,
         loaded: Loaded,
+        workers: u32,
     },
 }

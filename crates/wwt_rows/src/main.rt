@@ -45,7 +45,7 @@ fn run_file(rt: &HostRuntime, file: &str, sum: &mut Sum) -> Result<()> {
     let group: Group = serde_json::from_str(alloc, &text)?;
     ensure!(!group.rows.is_empty(), "no rows");
     for row in &group.rows {
-        let difference = play(alloc, &group.files, row).context(format_args!("{}", row.name))?;
+        let difference = play(rt, &group.files, row).context(format_args!("{}", row.name))?;
         sum.count(difference.is_some());
         if let Some(difference) = difference {
             println!(rt; "{}: {difference}", row.name)?;

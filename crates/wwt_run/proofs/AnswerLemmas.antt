@@ -45,12 +45,12 @@ ran_is_done : (machine : MachineParts) (loaded : LoadedImages) (options : Option
 unfolding status_of_run
 ran_is_done machine loaded options = run_is_done (outcome_of machine (final_of machine loaded options.trace)) (final_of machine loaded options.trace).nodes
 
-job_is_done : (job : Job) → IsDone (status_of_job job)
+pub job_is_done : (job : Job) → IsDone (status_of_job job)
 job_is_done (Check machine loaded) = tt
 job_is_done (Dis image) = tt
 job_is_done (Flat loaded) = ran_is_done flat_machine loaded (asked_of false false)
-job_is_done (Run machine loaded trace memory) = ran_is_done machine loaded (asked_of trace memory)
-job_is_done (Load machine loaded) = ran_is_done machine loaded summary_of
+job_is_done (Run machine loaded workers trace memory) = ran_is_done machine loaded (asked_of trace memory)
+job_is_done (Load machine loaded workers) = ran_is_done machine loaded summary_of
 
 done_is_written : (status : Status) → IsDone status → IsUnwritten status → ⊥
 done_is_written Done done unwritten = unwritten

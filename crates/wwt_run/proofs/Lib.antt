@@ -2,3 +2,4 @@ pub mod LineLemmas
 pub mod AnswerLemmas
 pub mod RefusedLemmas
 pub mod RunLemmas
+pub mod ThreadLemmas

@@ -22,8 +22,8 @@ use Rattle.wt_report.specs.Report.{logs_of, report}
 use Rattle.wt_outside.specs.Writes.{Writes}
 use Rattle.wt_report.specs.Stations as places
 use Rattle.wt_report.proofs.TraceOrder.{trace_is_serial}
-use Rattle.wwt_run.specs.Jobs.{AreInSerialOrder, final_of, output_of_run, status_of_run}
-use Rattle.wwt_run.specs.Status.{status_after_of}
+use Rattle.wwt_run.specs.Jobs.{AreInSerialOrder, IsAtEnd, final_of, out_of, output_of_run, status_of_run}
+use Rattle.wwt_run.specs.Status.{status_after_of, status_of_world}
 
 -- the final world of what an engine stands for is that of the start
 pub record IsOnItsWay (machine : MachineParts) (loaded : LoadedImages) (traced : Bool) (engine : EngineModel) : Type 0 where
@@ -40,12 +40,29 @@ from_the_start machine loaded traced engine machine_is unbroken running start = 
   end = ap (final (wind_tunnel machine)) start;
 }
 
-pub at_the_end : (machine : MachineParts) (loaded : LoadedImages) (traced : Bool) (before after : EngineModel) → IsOnItsWay machine loaded traced before → world_of after ≡ final (wind_tunnel before.machine) (world_of before) → world_of after ≡ final_of machine loaded traced
+at_the_end : (machine : MachineParts) (loaded : LoadedImages) (traced : Bool) (before after : EngineModel) → IsOnItsWay machine loaded traced before → world_of after ≡ final (wind_tunnel before.machine) (world_of before) → world_of after ≡ final_of machine loaded traced
 at_the_end machine loaded traced before after way last = last ∙ ap (λ (m : MachineParts). final (wind_tunnel m) (world_of before)) way.machine_is ∙ way.end
 
-pub in_serial_order : (machine : MachineParts) (loaded : LoadedImages) (traced : Bool) (world : World) → IsMachine machine → IsFor machine loaded → AreLoaded loaded → world ≡ final_of machine loaded traced → AreInSerialOrder machine loaded traced world
+in_serial_order : (machine : MachineParts) (loaded : LoadedImages) (traced : Bool) (world : World) → IsMachine machine → IsFor machine loaded → AreLoaded loaded → world ≡ final_of machine loaded traced → AreInSerialOrder machine loaded traced world
 in_serial_order machine loaded traced world numbers for are is asked =
     ap (λ (w : World). merge_of (logs_of w.nodes)) (is ∙ ap (final_of machine loaded) asked) ∙ (trace_is_serial machine numbers).whole loaded for are
+
+-- What an engine has come to that began at the start and ran to its end.
+pub at_end : (machine : MachineParts) (loaded : LoadedImages) (traced : Bool) (before after : EngineModel) → IsOnItsWay machine loaded traced before → IsFor machine loaded → AreLoaded loaded →
+    world_of after ≡ final (wind_tunnel before.machine) (world_of before) → after.machine ≡ before.machine → IsUnbroken after → IsAtEnd machine loaded traced after
+at_end machine loaded traced before after way for are last same unbroken =
+    let world = at_the_end machine loaded traced before after way last in
+    record {
+      world = world;
+      machine_is = same ∙ way.machine_is;
+      unbroken = unbroken;
+      order = in_serial_order machine loaded traced (world_of after) way.numbers for are world;
+    }
+
+-- Each quantum of such an engine was run by threads, where each of those of the call were.
+pub all_by_threads : (machine : MachineParts) (loaded : LoadedImages) (traced : Bool) (before after : EngineModel) → world_of before ≡ start_of machine loaded traced → before.threaded ≡ 0 → after.threaded + before.quanta ≡ before.threaded + after.quanta → after.threaded ≡ after.quanta
+all_by_threads machine loaded traced before after start none went =
+    let first : before.quanta ≡ 0 = ap (λ (w : World). w.quanta) start in omega (arith, first, none, went)
 
 -- ---- the stations of a machine
 
@@ -72,26 +89,27 @@ are_stations machine engine machine_is live running =
 
 -- ---- what is written, and the status
 
-module _ (machine : MachineParts) (loaded : LoadedImages) (options : Options) (engine : EngineModel) (head : Head) (is : world_of engine ≡ final_of machine loaded options.trace) (head_is : head ≡ head_of machine (world_of engine)) where
-  pub output_is : report machine head (nodes_of engine.stations) options ≡ output_of_run machine loaded options
+module _ (options : Options) (engine : EngineModel) (head : Head) (stations : List StationModel) (unbroken : IsUnbroken engine) (head_is : IsUnbroken engine → head ≡ head_of engine.machine (world_of engine)) (same : stations ≡ engine.stations) where
+  -- a report of stations that are the engine's
+  pub is_written : {K : Type 0} (machine : MachineParts) → machine ≡ engine.machine → (result : Result (Unit {0}) WriteFault) (view : SinkView K) (old new : K) →
+      Writes (report machine head (nodes_of stations) options) result view old new → Writes (out_of engine.machine (world_of engine) options) result view old new
+  is_written machine machine_is result view old new writes =
+      writes_same result
+      (ap (λ (m : MachineParts). report m head (nodes_of stations) options) machine_is
+      ∙ ap (λ (s : List StationModel). report engine.machine head (nodes_of s) options) same
+      ∙ ap (λ (h : Head). report engine.machine h (nodes_of engine.stations) options) (head_is unbroken)) writes
+
+  pub is_status : status_after_of head.outcome (nodes_of stations) ≡ status_of_world engine.machine (world_of engine)
+  is_status =
+      ap (λ (s : List StationModel). status_after_of head.outcome (nodes_of s)) same
+      ∙ ap (λ (h : Head). status_after_of h.outcome (nodes_of engine.stations)) (head_is unbroken)
+
+-- of an engine at its end these are those of the run
+module _ (machine : MachineParts) (loaded : LoadedImages) (options : Options) (engine : EngineModel) (at_end : IsAtEnd machine loaded options.trace engine) where
+  pub output_is : out_of engine.machine (world_of engine) options ≡ output_of_run machine loaded options
   unfolding output_of_run
-  output_is = ap (λ (h : Head). report machine h (nodes_of engine.stations) options) head_is ∙ ap (λ (w : World). report machine (head_of machine w) w.nodes options) is
+  output_is = ap (λ (m : MachineParts). out_of m (world_of engine) options) at_end.machine_is ∙ ap (λ (w : World). out_of machine w options) at_end.world
 
-  pub status_is : status_after_of head.outcome (nodes_of engine.stations) ≡ status_of_run machine loaded options
+  pub status_is : status_of_world engine.machine (world_of engine) ≡ status_of_run machine loaded options
   unfolding status_of_run
-  status_is = ap (λ (h : Head). status_after_of h.outcome (nodes_of engine.stations)) head_is ∙ ap (λ (w : World). status_after_of (outcome_of machine w) w.nodes) is
-
--- a report of stations that are the engine's
-pub is_written : {K : Type 0} (machine : MachineParts) (loaded : LoadedImages) (options : Options) (engine : EngineModel) (head : Head) (stations : List StationModel) → IsUnbroken engine → engine.machine ≡ machine → world_of engine ≡ final_of machine loaded options.trace →
-    (IsUnbroken engine → head ≡ head_of engine.machine (world_of engine)) → stations ≡ engine.stations → (result : Result (Unit {0}) WriteFault) (view : SinkView K) (old new : K) →
-    Writes (report machine head (nodes_of stations) options) result view old new → Writes (output_of_run machine loaded options) result view old new
-is_written machine loaded options engine head stations unbroken machine_is is head_is same result view old new writes =
-    writes_same result
-    (ap (λ (s : List StationModel). report machine head (nodes_of s) options) same
-    ∙ output_is machine loaded options engine head is (head_is unbroken ∙ ap (λ (m : MachineParts). head_of m (world_of engine)) machine_is)) writes
-
-pub is_status : (machine : MachineParts) (loaded : LoadedImages) (options : Options) (engine : EngineModel) (head : Head) (stations : List StationModel) → IsUnbroken engine → engine.machine ≡ machine → world_of engine ≡ final_of machine loaded options.trace →
-    (IsUnbroken engine → head ≡ head_of engine.machine (world_of engine)) → stations ≡ engine.stations → status_after_of head.outcome (nodes_of stations) ≡ status_of_run machine loaded options
-is_status machine loaded options engine head stations unbroken machine_is is head_is same =
-    ap (λ (s : List StationModel). status_after_of head.outcome (nodes_of s)) same
-    ∙ status_is machine loaded options engine head is (head_is unbroken ∙ ap (λ (m : MachineParts). head_of m (world_of engine)) machine_is)
+  status_is = ap (λ (m : MachineParts). status_of_world m (world_of engine)) at_end.machine_is ∙ ap (status_of_world machine) at_end.world

@@ -1,25 +1,30 @@
 -- What a call of the program answers, writes and says. Own.
-use Rattle.std.specs.Prelude.{ℕ, ◌≡◌, ◌≢◌, ◌⊎◌, List, [], true, Contains, Option, Some, Result, Ok, Err, IfOk, IfErr, IfSome}
+use Rattle.std.specs.Prelude.{ℕ, ◌≡◌, ◌≢◌, ◌<◌, ◌⊎◌, List, [], true, Contains, Option, Some, None, Result, Ok, Err, IfOk, IfErr, IfSome, IsSome}
 use Rattle.wt_outside.specs.Faults.{Rose, Stood}
 use Rattle.wt_outside.specs.Files.{Files, IsMissing}
 use Rattle.wt_outside.specs.Growth.{Grows, GrowsByPrefix}
 use Rattle.wt_outside.specs.Views.{StoreView, SinkView}
+use Rattle.engine.specs.Engine.{EngineModel}
 use Rattle.wwt_words.specs.Words.{Words}
 use Rattle.wwt_case.specs.declared.job.Job.{Job}
 use Rattle.wwt_case.specs.declared.refusal.Refusal.{Refusal}
 use Rattle.wwt_case.specs.declared.refusal.Refusal.TheVariants as refusals
 use Rattle.wwt_case.specs.Plan.{is_usage}
-use Rattle.wwt_case.specs.Case.{plan_of, case_of, names_of}
+use Rattle.wwt_case.specs.Case.{plan_of, case_of, names_of, workers_called}
 use Rattle.wwt_case.specs.Reading.{Asks, IsByItsName, IsSound}
 use Rattle.wwt_run.specs.declared.status.Status.{Status}
 use Rattle.wwt_run.specs.declared.status.Status.TheVariants.{Done, NodeFault, Usage, Budget, EventLimit, Stalled, BadMachine, BadImage, ReadFault, NoMemory}
-use Rattle.wwt_run.specs.Jobs.{status_of_job, status_of, output_of, output_of_job}
+use Rattle.wwt_run.specs.Jobs.{HaveRunJob, status_of_job, status_of, output_of, output_of_job}
 use Rattle.wwt_run.specs.Refused.{line_of_end}
 use Rattle.wwt_run.specs.Status.{status_of_end}
 
 -- the words are refused by themselves
 abbrev pub IsUsage : Words → Type 0
 IsUsage words = is_usage (plan_of words) ≡ true
+
+-- the words are those of a run or a load by two workers or more
+abbrev pub IsThreaded : Words → Type 0
+IsThreaded words = 1 < workers_called words
 
 -- How a call may end, by what it is called for: a job is done, unless its output can't be written; a refusal is that
 -- refusal. Want of memory may come in place of either.
@@ -104,6 +109,22 @@ pub record Untouched {S K : Type 0} (s0 s1 : S) (k0 k1 : K) (result : Option Sta
   pub store : s1 ≡ s0
   pub out : k1 ≡ k0
 
+-- A call on one thread answers nothing exactly where the words call for two workers or more, memory allowing. It has
+-- then touched nothing.
+pub record LeavesToThreads {S K E : Type 0} (words : Words) (s0 s1 : S) (k0 k1 : K) (e0 e1 : E) (result : Option Status) : Type 0 where
+  pub threaded : result ≡ None → IsThreaded words
+  pub left : IsThreaded words → (result ≡ None) ⊎ (result ≡ Some NoMemory)
+  pub store : result ≡ None → s1 ≡ s0
+  pub out : result ≡ None → k1 ≡ k0
+  pub err : result ≡ None → e1 ≡ e0
+
+-- The engine that threads have run, exactly where the words call for them and the call did its job: it has come to the
+-- end of the run that is called for, and each of its quanta was run by threads.
+pub record HasRun {S : Type 0} (words : Words) (store : StoreView S) (s0 : S) (result : Status) (ran : Option EngineModel) : Type 0 where
+  pub some : IsThreaded words → IsDone result → IsSome ran
+  pub job : IfSome ran (λ engine. IsThreaded words × IsDone result × ((job : Job) × HaveRunJob job (Some engine)))
+  pub told : (files : Files) → store.files s0 ≡ Some files → IfSome ran (λ engine. (job : Job) × (case_of words files ≡ Ok job) × HaveRunJob job (Some engine))
+
 -- All of this of a call that hasn't told its line yet.
 pub record Attempts {S K : Type 0} (words : Words) (store : StoreView S) (s0 s1 : S) (out : SinkView K) (k0 k1 : K) (end : Result Status Refusal) : Type 0 where
   pub headline : Headline words store s0 s1 out k0 k1 (Some (status_of_end end))
@@ -111,3 +132,14 @@ pub record Attempts {S K : Type 0} (words : Words) (store : StoreView S) (s0 s1 
   pub asks : AsksInOrder words store s0 s1 (Some (status_of_end end))
   pub written : Written words store s0 out k0 k1 (Some (status_of_end end))
   pub refused : IsUsage words → Untouched s0 s1 k0 k1 (Some (status_of_end end))
+
+-- The same of a call on one thread, which may leave the words to threads and then has touched nothing.
+abbrev pub AttemptsByOne : {S K : Type 0} → Words → StoreView S → S → S → SinkView K → K → K → Result (Option Status) Refusal → Type 0
+AttemptsByOne words store s0 s1 out k0 k1 (Ok None) = IsThreaded words × (s1 ≡ s0) × (k1 ≡ k0)
+AttemptsByOne words store s0 s1 out k0 k1 (Ok (Some status)) = (IsThreaded words → ⊥) × Attempts words store s0 s1 out k0 k1 (Ok status)
+AttemptsByOne words store s0 s1 out k0 k1 (Err refusal) = (IsThreaded words → refusal ≡ refusals.NoMemory) × Attempts words store s0 s1 out k0 k1 (Err refusal)
+
+-- how a call ended that hands out an engine
+abbrev pub end_of : Result (Status × Option EngineModel) Refusal → Result Status Refusal
+end_of (Ok done) = Ok done.0
+end_of (Err refusal) = Err refusal

@@ -1,5 +1,5 @@
 -- What a job writes, and how it ends. Own.
-use Rattle.std.specs.Prelude.{◌≡◌, ℕ, Bool, true, false, List, [], Result, Ok, Err}
+use Rattle.std.specs.Prelude.{◌≡◌, ℕ, Bool, true, false, List, [], Option, Some, None, Result, Ok, Err}
 use Rattle.wt_params.specs.declared.parts.MachineParts.{MachineParts}
 use Rattle.wt_params.specs.Machine.{flat_machine}
 use Rattle.image_loader.specs.Images.{LoadedImages}
@@ -15,6 +15,7 @@ use Rattle.wwt_case.specs.declared.refusal.Refusal.TheVariants as refusals
 use Rattle.wwt_run.specs.declared.status.Status.{Status}
 use Rattle.wwt_run.specs.declared.status.Status.TheVariants.{Done}
 use Rattle.quantum.specs.World.{World, start_of}
+use Rattle.engine.specs.Engine.{EngineModel, IsUnbroken, world_of}
 use Rattle.quantum.specs.Outcome.{head_of}
 use Rattle.wt_report.specs.declared.options.Options.{Options}
 use Rattle.wt_report.specs.Report.{logs_of, report}
@@ -34,6 +35,29 @@ out_of machine world options = report machine (head_of machine world) world.node
 abbrev pub AreInSerialOrder : MachineParts → LoadedImages → Bool → World → Type 0
 AreInSerialOrder machine loaded traced world =
     traced ≡ true → merge_of (logs_of world.nodes) ≡ whole_history machine loaded
+
+-- an engine whose run has come to its end
+pub record IsAtEnd (machine : MachineParts) (loaded : LoadedImages) (traced : Bool) (engine : EngineModel) : Type 0 where
+  pub world : world_of engine ≡ final_of machine loaded traced
+  pub machine_is : engine.machine ≡ machine
+  pub unbroken : IsUnbroken engine
+  pub order : AreInSerialOrder machine loaded traced (world_of engine)
+
+-- and threads did each of its quanta
+pub record IsAtEndByThreads (machine : MachineParts) (loaded : LoadedImages) (traced : Bool) (engine : EngineModel) : Type 0 where
+  pub at_end : IsAtEnd machine loaded traced engine
+  pub threaded : engine.threaded ≡ engine.quanta
+
+-- threads have run a machine to its end, and the engine is there
+abbrev pub HaveRun : MachineParts → LoadedImages → Bool → Option EngineModel → Type 0
+HaveRun machine loaded traced None = ⊥
+HaveRun machine loaded traced (Some engine) = IsAtEndByThreads machine loaded traced engine
+
+-- the same of a job that runs a machine by workers; no other job has an engine
+abbrev pub HaveRunJob : Job → Option EngineModel → Type 0
+HaveRunJob (Run machine loaded workers trace memory) ran = HaveRun machine loaded trace ran
+HaveRunJob (Load machine loaded workers) ran = HaveRun machine loaded false ran
+HaveRunJob job ran = ran ≡ None
 
 -- the status of a run
 unfoldable pub status_of_run : MachineParts → LoadedImages → Options → Status
@@ -55,15 +79,15 @@ abbrev pub output_of_job : Job → List ℕ
 output_of_job (Check machine loaded) = machine_text machine loaded
 output_of_job (Dis image) = words_text image
 output_of_job (Flat loaded) = output_of_run flat_machine loaded (asked_of false false)
-output_of_job (Run machine loaded trace memory) = output_of_run machine loaded (asked_of trace memory)
-output_of_job (Load machine loaded) = output_of_run machine loaded summary_of
+output_of_job (Run machine loaded workers trace memory) = output_of_run machine loaded (asked_of trace memory)
+output_of_job (Load machine loaded workers) = output_of_run machine loaded summary_of
 
 abbrev pub status_of_job : Job → Status
 status_of_job (Check machine loaded) = Done
 status_of_job (Dis image) = Done
 status_of_job (Flat loaded) = status_of_run flat_machine loaded (asked_of false false)
-status_of_job (Run machine loaded trace memory) = status_of_run machine loaded (asked_of trace memory)
-status_of_job (Load machine loaded) = status_of_run machine loaded summary_of
+status_of_job (Run machine loaded workers trace memory) = status_of_run machine loaded (asked_of trace memory)
+status_of_job (Load machine loaded workers) = status_of_run machine loaded summary_of
 
 -- the status and the output of a case
 abbrev pub status_of : Result Job Refusal → Status

@@ -10,4 +10,4 @@ mod top;
 
 pub use refuse::out_of_memory;
 pub use status::Status;
-pub use top::wwt_plain;
+pub use top::{wwt, wwt_plain};

@@ -1,11 +1,15 @@
 ghost use Rattle.std.specs.Prelude.{◌≡◌, IfOk};
 ghost use Rattle.wt_outside.specs.Writes.{Writes};
 ghost use Rattle.wwt_case.specs.Case.{IsReady};
-ghost use Rattle.wwt_run.specs.Jobs.{asked_of, done_of, output_of_job, status_of_job, summary_of};
+ghost use Rattle.wwt_run.specs.Jobs.{HaveRunJob, asked_of, done_of, output_of_job, status_of_job, summary_of};
 
-use crate::run::run;
+use crate::run::{run, run_by_workers};
 use crate::status::Status;
+use engine::Engine;
+use gate::Gate;
 use std::alloc::Global;
+use std::sync::Wait;
+use std::thread::Threads;
 use wt_listing::{write_machine, write_words};
 use wt_outside::{Sink, WriteFault};
 use wt_params::Machine;
@@ -27,8 +31,47 @@ pub fn perform<K: Sink>(alloc: Global, job: &Job, out: &mut K) -> Result<Status,
             loaded,
             trace,
             memory,
+            ..
         } => run(alloc, machine, loaded, &asked(*trace, *memory), out),
-        Job::Load { machine, loaded } => run(alloc, machine, loaded, &summary(), out),
+        Job::Load {
+            machine, loaded, ..
+        } => run(alloc, machine, loaded, &summary(), out),
+    }
+}
+
+/// Does a job, by as many workers as it has where it runs a machine. The engine that they ran comes with the status.
+pub fn perform_by_workers<R: Threads + Wait + Sync, K: Sink, G: Gate + Sync>(
+    rt: &R,
+    alloc: Global,
+    job: &Job,
+    out: &mut K,
+    gate: &G,
+) -> Result<(Status, Option<Engine>), WriteFault>
+    requires { IsReady job.now }
+    ensures status { IfOk result (λ done. done.0 ≡ status_of_job job.now) }
+    ensures engine { IfOk result (λ done. HaveRunJob job.now done.1) }
+    ensures writes { Writes (output_of_job job.now) result K.view out.old out.new }
+{
+    match job {
+        Job::Run {
+            machine,
+            loaded,
+            workers,
+            trace,
+            memory,
+        } => {
+            let options = asked(*trace, *memory);
+            run_by_workers(rt, alloc, machine, loaded, *workers, &options, out, gate)
+        }
+        Job::Load {
+            machine,
+            loaded,
+            workers,
+        } => run_by_workers(rt, alloc, machine, loaded, *workers, &summary(), out, gate),
+        _ => match perform(alloc, job, out) {
+            Ok(status) => Ok((status, None)),
+            Err(fault) => Err(fault),
+        },
     }
 }
 

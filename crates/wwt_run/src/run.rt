@@ -2,16 +2,21 @@ ghost use Rattle.std.specs.Prelude.{◌≡◌, IfOk};
 ghost use Rattle.std.specs.List.{list_all};
 ghost use Rattle.image_loader.specs.Images.{IsFor};
 ghost use Rattle.wt_outside.specs.Writes.{Writes};
-ghost use Rattle.engine.specs.Engine.{nodes_of};
+ghost use Rattle.wwt_case.specs.Case.{AreWorkers};
+ghost use Rattle.engine.specs.Engine.{IsUnbroken, nodes_of, world_of};
 ghost use Rattle.node.specs.State.{exits_well};
-ghost use Rattle.wwt_run.specs.Jobs.{output_of_run, status_of_run};
-ghost use Rattle.wwt_run.specs.Status.{status_after_of};
+ghost use Rattle.wwt_run.specs.Jobs.{HaveRun, out_of, output_of_run, status_of_run};
+ghost use Rattle.wwt_run.specs.Status.{status_after_of, status_of_world};
 
-use crate::simulate::simulate;
+use crate::simulate::{simulate, simulate_by_workers};
 use crate::status::Status;
+use engine::Engine;
+use gate::Gate;
 use image_loader::Loaded;
 use quantum::Station;
 use std::alloc::Global;
+use std::sync::Wait;
+use std::thread::Threads;
 use wt_outside::{Sink, WriteFault};
 use wt_params::Machine;
 use wt_proto::{Cause, Mode};
@@ -31,9 +36,48 @@ pub fn run<K: Sink>(
     ensures writes { Writes (output_of_run machine.now loaded.now options.now) result K.view out.old out.new }
 {
     let engine = simulate(alloc, machine, loaded, options.trace)?;
+    tell(alloc, &engine, options, out)
+}
+
+/// The same by so many workers. The engine that they ran comes with the status.
+pub fn run_by_workers<R: Threads + Wait + Sync, K: Sink, G: Gate + Sync>(
+    rt: &R,
+    alloc: Global,
+    machine: &Machine,
+    loaded: &Loaded,
+    workers: u32,
+    options: &Options,
+    out: &mut K,
+    gate: &G,
+) -> Result<(Status, Option<Engine>), WriteFault>
+    requires images { IsFor machine.now loaded.now }
+    requires workers { AreWorkers workers }
+    ensures status { IfOk result (λ done. done.0 ≡ status_of_run machine.now loaded.now options.now) }
+    ensures engine { IfOk result (λ done. HaveRun machine.now loaded.now options.now.trace done.1) }
+    ensures writes { Writes (output_of_run machine.now loaded.now options.now) result K.view out.old out.new }
+{
+    let traced = options.trace;
+    let engine = simulate_by_workers(rt, alloc, machine, loaded, traced, workers, gate)?;
+    match tell(alloc, &engine, options, out) {
+        Ok(status) => Ok((status, Some(engine))),
+        Err(fault) => Err(fault),
+    }
+}
+
+/// Writes the report of what an engine has come to, and answers its status.
+fn tell<K: Sink>(
+    alloc: Global,
+    engine: &Engine,
+    options: &Options,
+    out: &mut K,
+) -> Result<Status, WriteFault>
+    requires { IsUnbroken engine.now }
+    ensures status { IfOk result (λ status. status ≡ status_of_world engine.now.machine (world_of engine.now)) }
+    ensures writes { Writes (out_of engine.now.machine (world_of engine.now) options.now) result K.view out.old out.new }
+{
     let head = engine.head();
     let stations = engine.stations();
-    match write_report(alloc, &head, machine, stations, options, out) {
+    match write_report(alloc, &head, engine.machine(), stations, options, out) {
         Ok(()) => Ok(status_after(head.outcome, stations)),
         Err(fault) => Err(fault),
     }

@@ -1,12 +1,14 @@
-ghost use Rattle.std.specs.Prelude.{◌≡◌, All, IfOk};
+ghost use Rattle.std.specs.Prelude.{IfOk};
 ghost use Rattle.image_loader.specs.Images.{IsFor};
-ghost use Rattle.wt_report.specs.Stations.{AreStationsOf};
-ghost use Rattle.engine.specs.Engine.{IsUnbroken, world_of};
-ghost use Rattle.wwt_run.specs.Jobs.{AreInSerialOrder, final_of};
+ghost use Rattle.wwt_case.specs.Case.{AreWorkers};
+ghost use Rattle.wwt_run.specs.Jobs.{IsAtEnd, IsAtEndByThreads};
 
 use engine::Engine;
+use gate::Gate;
 use image_loader::Loaded;
 use std::alloc::Global;
+use std::sync::Wait;
+use std::thread::Threads;
 use wt_params::{Machine, NoMemory};
 
 /// Runs a machine from its start as long as there is an event. Its events are recorded exactly where `traced`.
@@ -17,14 +19,31 @@ pub fn simulate(
     traced: bool,
 ) -> Result<Engine, NoMemory>
     requires { IsFor machine.now loaded.now }
-    ensures world { IfOk result (λ engine. world_of engine ≡ final_of machine.now loaded.now traced) }
-    ensures machine { IfOk result (λ engine. engine.machine ≡ machine.now) }
-    ensures unbroken { IfOk result IsUnbroken }
-    ensures order { IfOk result (λ engine. AreInSerialOrder machine.now loaded.now traced (world_of engine)) }
+    ensures { IfOk result (IsAtEnd machine.now loaded.now traced) }
 {
     // Images that are kept can be loaded, so the start is a world.
     let _images = loaded.images();
     let mut engine = Engine::new(alloc, *machine, loaded, traced)?;
     engine.run_plain()?;
+    Ok(engine)
+}
+
+/// The same by so many workers, each quantum in threads of the host.
+pub fn simulate_by_workers<R: Threads + Wait + Sync, G: Gate + Sync>(
+    rt: &R,
+    alloc: Global,
+    machine: &Machine,
+    loaded: &Loaded,
+    traced: bool,
+    workers: u32,
+    gate: &G,
+) -> Result<Engine, NoMemory>
+    requires images { IsFor machine.now loaded.now }
+    requires workers { AreWorkers workers }
+    ensures { IfOk result (IsAtEndByThreads machine.now loaded.now traced) }
+{
+    let _images = loaded.images();
+    let mut engine = Engine::new(alloc, *machine, loaded, traced)?;
+    engine.run(rt, workers, gate)?;
     Ok(engine)
 }

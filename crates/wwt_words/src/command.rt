@@ -1,5 +1,6 @@
 ghost use Rattle.std.specs.Prelude.{◌≡◌};
 ghost use Rattle.wwt_words.specs.declared.command.WordFault.TheVariants.{NoMemory};
+ghost use Rattle.wwt_words.specs.Workers.{workers_in};
 
 use crate::word::Word;
 use std::alloc::AllocError;
@@ -40,6 +41,18 @@ pub enum Command {
     },
     /// Run flat bytes from standard input and print the report.
     Flat,
+}
+
+impl Command {
+    /// How many workers are called for: one but for a run or a load that asks for more.
+    pub fn workers(&self) -> u32
+        ensures { result ≡ workers_in self.now }
+    {
+        match self {
+            Command::Run { workers, .. } | Command::Load { workers, .. } => *workers,
+            _ => 1,
+        }
+    }
 }
 
 /// Why words make no command.

@@ -1,4 +1,4 @@
-use Rattle.wwt_case.proofs.CaseLemmas.{accepts, refuses, usage_as, no_usage_of_run, no_usage_of_load, usage_of_run, usage_of_load, none_refused, of_check, of_dis, of_flat, of_run, of_load}
+use Rattle.wwt_case.proofs.CaseLemmas.{accepts, usage_as, no_usage_of_load, of_check, of_dis, of_flat, of_run, of_load}
 use Rattle.wwt_case.proofs.case.prepare_command.Goals as goal
 
 pub returns-in-Check-clause-read : goal.returns-in-Check-clause-read
@@ -24,32 +24,18 @@ pub returns-in-Flat-clause-usage : goal.returns-in-Flat-clause-usage
 returns-in-Flat-clause-usage g c =
     accepts _ _ c.prepare_flat.result (usage_as c.in-Flat.is) c.prepare_flat.ensures.other
 
-pub returns-then-workers-eq1-clause-read : goal.returns-then-workers-eq1-clause-read
-returns-then-workers-eq1-clause-read g c =
-    of_run _ c.in-Run.workers c.in-Run.trace c.in-Run.memory c.in-Run.budget c.in-Run.machine _ _ _ _ c.prepare_run.result c.in-Run.is c.if-workers-eq1.true c.get-then-workers-eq1.ensures c.prepare_run.ensures.read
+pub returns-in-Run-clause-read : goal.returns-in-Run-clause-read
+returns-in-Run-clause-read g c =
+    of_run _ c.in-Run.workers c.in-Run.trace c.in-Run.memory c.in-Run.budget c.in-Run.machine _ _ _ _ c.prepare_run.result c.in-Run.is c.get-name.ensures c.prepare_run.ensures.read
 
-pub returns-then-workers-eq1-clause-usage : goal.returns-then-workers-eq1-clause-usage
-returns-then-workers-eq1-clause-usage g c =
-    accepts _ _ c.prepare_run.result
-    (no_usage_of_run _ c.in-Run.workers c.in-Run.trace c.in-Run.memory c.in-Run.budget c.in-Run.machine c.in-Run.is c.if-workers-eq1.true)
-    c.prepare_run.ensures.other
+pub returns-in-Run-clause-usage : goal.returns-in-Run-clause-usage
+returns-in-Run-clause-usage g c =
+    accepts _ _ c.prepare_run.result (usage_as c.in-Run.is) c.prepare_run.ensures.other
 
-pub returns-else-workers-eq1-clause-usage : goal.returns-else-workers-eq1-clause-usage
-returns-else-workers-eq1-clause-usage g c =
-    refuses _ (usage_of_run _ c.in-Run.workers c.in-Run.trace c.in-Run.memory c.in-Run.budget c.in-Run.machine c.in-Run.is c.if-workers-eq1.false)
+pub returns-in-Load-clause-read : goal.returns-in-Load-clause-read
+returns-in-Load-clause-read g c = of_load _ c.in-Load.number c.in-Load.workers _ _ _ c.prepare_load.result c.in-Load.is c.prepare_load.ensures.read
 
-pub returns-then-workers-eq1-2-clause-read : goal.returns-then-workers-eq1-2-clause-read
-returns-then-workers-eq1-2-clause-read g c = of_load _ c.in-Load.number c.in-Load.workers _ _ _ c.prepare_load.result c.in-Load.is c.if-workers-eq1-2.true c.prepare_load.ensures.read
-
-pub returns-then-workers-eq1-2-clause-usage : goal.returns-then-workers-eq1-2-clause-usage
-returns-then-workers-eq1-2-clause-usage g c =
-    accepts _ _ c.prepare_load.result (no_usage_of_load _ c.in-Load.workers c.in-Load.number c.in-Load.is c.if-workers-eq1-2.true)
+pub returns-in-Load-clause-usage : goal.returns-in-Load-clause-usage
+returns-in-Load-clause-usage g c =
+    accepts _ _ c.prepare_load.result (no_usage_of_load _ c.in-Load.workers c.in-Load.number c.in-Load.is)
     c.prepare_load.ensures.other
-
-pub returns-then-workers-eq1-2-clause-refused : goal.returns-then-workers-eq1-2-clause-refused
-returns-then-workers-eq1-2-clause-refused g c =
-    none_refused _ (no_usage_of_load _ c.in-Load.workers c.in-Load.number c.in-Load.is c.if-workers-eq1-2.true)
-
-pub returns-else-workers-eq1-2-clause-usage : goal.returns-else-workers-eq1-2-clause-usage
-returns-else-workers-eq1-2-clause-usage g c =
-    refuses _ (usage_of_load _ c.in-Load.workers c.in-Load.number c.in-Load.is c.if-workers-eq1-2.false)
