@@ -13,7 +13,10 @@ use anyhow::{Context, Result, ensure};
 use play::play;
 use row::Group;
 use std::process::ExitCode;
-use std::rt::Env;
+use std::io::Print;
+use std::rt::{Env, Files};
+use std::sync::Wait;
+use std::thread::Threads;
 use std::{env, fs};
 use sum::Sum;
 
@@ -29,7 +32,7 @@ fn main(rt: HostRuntime) -> ExitCode {
 }
 
 /// Runs the rows of the files that the command line names.
-fn run(rt: &HostRuntime) -> Result<Sum> {
+fn run<R: Env + Files + Print + AllocGlobal + Threads + Wait + Sync>(rt: &R) -> Result<Sum> {
     let mut sum = Sum::default();
     for file in env::args(rt)?.skip(1) {
         run_file(rt, &file, &mut sum).context(format_args!("{file}"))?;
@@ -39,7 +42,11 @@ fn run(rt: &HostRuntime) -> Result<Sum> {
 }
 
 /// Runs the rows of a file, and prints those that differ.
-fn run_file(rt: &HostRuntime, file: &str, sum: &mut Sum) -> Result<()> {
+fn run_file<R: Files + Print + AllocGlobal + Threads + Wait + Sync>(
+    rt: &R,
+    file: &str,
+    sum: &mut Sum,
+) -> Result<()> {
     let alloc = rt.alloc();
     let text = fs::read_to_string(rt, file)?;
     let group: Group = serde_json::from_str(alloc, &text)?;

@@ -9,6 +9,8 @@ use anyhow::{Context, Result};
 use gate::OpenGate;
 use std::alloc::Global;
 use std::collections::BTreeMap;
+use std::sync::Wait;
+use std::thread::Threads;
 use wt_outside::{MemSink, MemStore};
 use wwt_run::wwt;
 
@@ -22,8 +24,8 @@ const WORKERS: [&str; 3] = ["2", "3", "16"];
 
 /// Runs a row over these files and its own, and again by several workers where it runs a machine. The first difference
 /// to what it wants, if there is one.
-pub fn play(
-    rt: &HostRuntime,
+pub fn play<R: AllocGlobal + Threads + Wait + Sync>(
+    rt: &R,
     shared: &BTreeMap<String, Content>,
     row: &Row,
 ) -> Result<Option<String>> {
@@ -77,8 +79,8 @@ fn by_workers(
 }
 
 /// Runs these words over the files and with the faults of a row.
-fn play_words(
-    rt: &HostRuntime,
+fn play_words<R: AllocGlobal + Threads + Wait + Sync>(
+    rt: &R,
     shared: &BTreeMap<String, Content>,
     row: &Row,
     words: &[String],
