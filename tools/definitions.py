@@ -11,7 +11,8 @@ where only another clause does, and else *inner*: a contract further down cites 
 
 A definition is one `abbrev`, `unfoldable`, `record` or `data`. Its lines are those from its head to
 the next blank line, comment or head. Types and fields of the code itself (`specs.declared`) are the
-code's own; they are counted apart.
+code's own; they are counted apart. Names are followed as they are spelt: a variable that has the
+name of a definition counts as naming it, so more may count as of the headline, and never less.
 """
 import collections
 import glob
@@ -174,12 +175,17 @@ def sums(rows):
     return {kind: [sum(row[kind][at] for row in rows.values()) for at in (0, 1)] for kind in KINDS}
 
 
-def sentences(total, types):
-    """The figures as the docs give them."""
+def figures(total, types):
+    """The figures that the docs give, each by the words around it."""
     (count, lines), beside, inner = (total[kind] for kind in KINDS)
-    whole = count + beside[0] + inner[0]
-    return (f"{count} definitions of {lines} lines", f"{types} types of the code",
-            f"{beside[0]} more of {beside[1]} lines", f"{inner[0]} of {whole} definitions")
+    return {
+        r"some (\d+) definitions of \d+ lines": count,
+        r"some \d+ definitions of (\d+) lines": lines,
+        r"over some (\d+) types of the code": types,
+        r"clauses add some (\d+)": beside[0],
+        r"(\d+) of some \d+ definitions are inner": inner[0],
+        r"of some (\d+) definitions are inner": count + beside[0] + inner[0],
+    }
 
 
 def mark_of(row):
@@ -187,37 +193,45 @@ def mark_of(row):
     return next(kind for kind in KINDS if row[kind][0])
 
 
+def figure_faults(name, text, told):
+    """Figures of a document that are more than a twentieth off."""
+    for words, count in told.items():
+        for found in re.findall(words, " ".join(text.split())):
+            if abs(int(found) - count) * 20 > count:
+                yield f"{name} says {found} where '{words}' is {count}"
+
+
 def check(top, rows, told):
     """What the docs say otherwise."""
-    faults = []
+    texts = {}
     for name in ("README.md", "docs/definitions.md"):
         with open(os.path.join(top, name), encoding="utf-8") as file:
-            text = " ".join(file.read().split())
-        faults += [f"{name} doesn't say '{one}'" for one in told if one not in text]
+            texts[name] = file.read()
+    faults = [fault for name, text in texts.items() for fault in figure_faults(name, text, told)]
     seen = set()
-    with open(os.path.join(top, "docs/definitions.md"), encoding="utf-8") as file:
-        for number, line in enumerate(file, 1):
-            cells = [cell.strip() for cell in line.strip().strip("|").split("|")]
-            if len(cells) != 4 or cells[1] not in KINDS:
-                continue
-            keys = places(cells[2], rows)
-            seen.update(keys)
-            marks = {mark_of(rows[key]) for key in keys}
-            best = next((kind for kind in KINDS if kind in marks), None)
-            if best != cells[1]:
-                faults.append(f"docs/definitions.md, line {number}: '{cells[0]}' is {best}, "
-                              f"not {cells[1]}")
-    faults += [f"docs/definitions.md doesn't name {'.'.join(key)}" for key in sorted(set(rows) - seen)]
-    return faults
+    for number, line in enumerate(texts["docs/definitions.md"].splitlines(), 1):
+        cells = [cell.strip() for cell in line.strip().strip("|").split("|")]
+        if len(cells) != 4 or cells[1] not in KINDS:
+            continue
+        keys = places(cells[2], rows)
+        seen.update(keys)
+        marks = {mark_of(rows[key]) for key in keys}
+        best = next((kind for kind in KINDS if kind in marks), None)
+        if best != cells[1]:
+            faults.append(f"docs/definitions.md, line {number}: '{cells[0]}' is {best}, "
+                          f"not {cells[1]}")
+    return faults + [f"docs/definitions.md doesn't name {'.'.join(key)}" for key in sorted(rows)
+                     if key not in seen and mark_of(rows[key]) != "inner"]
 
 
 def places(cell, rows):
     """The files that a cell names, as `crate`, `File`, `File`; `other_crate`, `File`."""
-    found = []
-    for part in cell.split(";"):
-        names = re.findall(r"`(\w+)`", part)
-        crates = [name for name in names if name[0].islower()]
-        found += [(crate, name) for crate in crates for name in names if (crate, name) in rows]
+    found, crate = [], None
+    for name in re.findall(r"`(\w+)`", cell):
+        if name[0].islower():
+            crate = name
+        elif (crate, name) in rows:
+            found.append((crate, name))
     return found
 
 
@@ -232,12 +246,12 @@ def main():
     rows = table(definitions, kinds, 2 if words.files or words.check else 1)
     total = sums(rows)
     if words.check:
-        faults = check(TOP, rows, sentences(total, types))
+        faults = check(TOP, rows, figures(total, types))
         for fault in faults:
             print(fault)
         return 1 if faults else 0
     put_table({**rows, ("all",): total})
-    print(*sentences(total, types), sep="\n")
+    print(f"types of the code that the headline speaks of: {types}")
     return 0
 
 
