@@ -223,9 +223,14 @@ def missing(path):
         program_of(path)
     except ToolError as error:
         return str(error)
-    if not os.path.exists(os.path.join(TOP, ".git")):
-        return "this folder is no clone"
-    return next((f"{name} isn't installed" for name in NEEDED if not shutil.which(name)), None)
+    lack = next((f"{name} isn't installed" for name in NEEDED if not shutil.which(name)), None)
+    if lack:
+        return lack
+    try:
+        git(TOP, "ls-files", "README.md")
+    except subprocess.CalledProcessError as error:
+        return f"git doesn't know this folder: {error.stderr.strip()}"
+    return None
 
 
 def main():
