@@ -16,7 +16,7 @@
 #include "wwt.h"
 
 #define WWT_OUT 0       /* neither has the lock nor wants it */
-#define WWT_DRAWING 1   /* draws a number; real ones are above this */
+#define WWT_DRAWING 1   /* draws a number, which will be above this */
 
 struct wwt_place {
     volatile uint32_t number;
@@ -60,11 +60,10 @@ static inline void wwt_acquire(struct wwt_lock *lock)
         uint32_t number;
         if (other == node)
             continue;
+        /* (who is drawing has less than any number, so it is waited for, too) */
         do
             number = wwt_get_place(&lock->places[other]);
-        while (number == WWT_DRAWING);
-        while (number != WWT_OUT && (number < own || (number == own && other < node)))
-            number = wwt_get_place(&lock->places[other]);
+        while (number != WWT_OUT && (number < own || (number == own && other < node)));
     }
 }
 
