@@ -90,7 +90,8 @@ class KitTest(unittest.TestCase):
         self.assertIn("has its section .shared at", ran.stdout)
 
     def test_too_much_shared_memory(self):
-        ran = self.link("-T", "machine.ld", "-Wl,--defsym=WWT_SHARED_BYTES=2048", "start.s", "sum.c")
+        ran = self.link("-T", "machine.ld", "-Wl,--defsym=WWT_SHARED_BYTES=2048", "start.s",
+                        "sum.c")
         self.assertIn("will not fit in region `shared'", ran.stderr)
 
     def test_the_lock(self):
@@ -101,9 +102,11 @@ class KitTest(unittest.TestCase):
         self.assertNotIn("counted 100 of 100\n", self.make("P=count", "DEFS=-DNO_LOCK"))
 
     def test_block_sizes(self):
-        for size in (16, 32, 64, 128):
+        for size in (16, 64, 128):
             for name, text in (("sharing", "each counted 100\n"), ("matmul", "sum 380674048\n"),
-                               ("radix", "sorted weight 2139864126\n")):
+                               ("radix", "sorted weight 2139864126\n"), ("sum", "sum 524800\n"),
+                               ("stencil", "sum 527270 first 5299 last 5796\n"),
+                               ("ring", "passed 40 times by 4\n")):
                 self.assertIn(text, self.make(f"P={name}", f"BLOCK={size}", "BLOCKS=2048"))
 
     def test_larger_shared_memory(self):
