@@ -5,7 +5,7 @@ import subprocess
 import tempfile
 import unittest
 
-from support import EXAMPLES, program, tool, write
+from support import EXAMPLES, program, read, simulate, tool, write
 
 GCC = "riscv64-unknown-elf-gcc"
 COMPILE = (GCC, "-march=rv32i", "-mabi=ilp32", "-O2", "-ffreestanding", "-nostdlib")
@@ -43,6 +43,21 @@ int main(void)
     return 0;
 }
 """
+
+
+class StoredTest(unittest.TestCase):
+    def test_each_machine_runs(self):
+        """Every description in the folder, with what is stored there alone."""
+        machines = [name for name in sorted(os.listdir(EXAMPLES))
+                    if name.endswith(".json") and '"version"' in read(os.path.join(EXAMPLES, name))]
+        self.assertGreater(len(machines), 12)
+        for name in machines:
+            with self.subTest(name):
+                report = simulate("run", name)
+                self.assertTrue(report.startswith("outcome finished\n"), report[:200])
+                for line in report.splitlines():
+                    if line.startswith("node "):
+                        self.assertIn(" exit 0 ", line)
 
 
 class KitTest(unittest.TestCase):
