@@ -60,6 +60,13 @@ class StoredTest(unittest.TestCase):
                         self.assertIn(" exit 0 ", line)
 
 
+    def test_the_texts_are_told(self):
+        told = read(os.path.join(EXAMPLES, "README.md"))
+        for name in os.listdir(EXAMPLES):
+            if name.endswith(".txt"):
+                self.assertIn(f"`{read(os.path.join(EXAMPLES, name)).strip()}`", told)
+
+
 class KitTest(unittest.TestCase):
     def setUp(self):
         for name in (GCC, "make"):
