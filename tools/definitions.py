@@ -194,10 +194,10 @@ def mark_of(row):
 
 
 def figure_faults(name, text, told):
-    """Figures of a document that are more than a twentieth off."""
+    """Figures of a document that are more than a tenth off."""
     for words, count in told.items():
         for found in re.findall(words, " ".join(text.split())):
-            if abs(int(found) - count) * 20 > count:
+            if abs(int(found) - count) * 10 > count:
                 yield f"{name} says {found} where '{words}' is {count}"
 
 
