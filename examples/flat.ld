@@ -20,10 +20,12 @@ PHDRS
 
 SECTIONS
 {
-    .text : { *(.start) *(.text .text.*) } > private :code
+    .text : { *(.start) wwt_start_end = .; *(.text .text.*) } > private :code
     .rodata : { *(.rodata .rodata.* .srodata .srodata.*) } > private :code
     .data : { *(.data .data.* .sdata .sdata.*) *(.shared .shared.*) } > private :variables
     .bss (NOLOAD) : { *(.bss .bss.* .sbss .sbss.* COMMON) } > private :variables
 
-    /DISCARD/ : { *(.comment) *(.note .note.*) *(.eh_frame) }
+    /DISCARD/ : { *(.comment) *(.note .note.*) *(.eh_frame) *(.laid_out) }
 }
+
+ASSERT(wwt_start_end > 0, "This program has no start: name start.s on the line that links it.")

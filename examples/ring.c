@@ -12,7 +12,7 @@
 /* The turn and the token, each in a block of its own. */
 struct cell {
     volatile uint32_t value;
-} __attribute__((aligned(32)));
+} WWT_ALIGNED;
 
 WWT_SHARED static struct cell turn = {0};
 WWT_SHARED static struct cell token = {0};

@@ -17,7 +17,7 @@
 /* Cells that fill a block of shared memory. */
 struct block {
     uint32_t cell[CELLS];
-} __attribute__((aligned(32)));
+} WWT_ALIGNED;
 
 WWT_SHARED static struct block first[BLOCKS] = {{{0}}};
 WWT_SHARED static struct block second[BLOCKS] = {{{0}}};

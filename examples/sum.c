@@ -7,16 +7,13 @@
 
 #define COUNT 1024
 
-/* As many nodes as a machine has at most. */
-#define NODES 32
-
 /* A sum in a block of its own, so that no two nodes write the same block. */
 struct sum {
     uint32_t value;
-} __attribute__((aligned(32)));
+} WWT_ALIGNED;
 
 WWT_SHARED static uint32_t numbers[COUNT] = {0};
-WWT_SHARED static struct sum sums[NODES] = {{0}};
+WWT_SHARED static struct sum sums[WWT_MOST_NODES] = {{0}};
 
 /* The place where the part of a node begins. The part of a node after the last would begin at COUNT. */
 static uint32_t begin_of(uint32_t node, uint32_t nodes)

@@ -17,6 +17,17 @@
 
 #include <stdint.h>
 
+/* How many bytes a block of shared memory has: block_bytes of the machine. -DWWT_BLOCK=64 is for blocks of 64 bytes. */
+#ifndef WWT_BLOCK
+#define WWT_BLOCK 32
+#endif
+
+/* Begins a block. A struct type that is declared so has its blocks to itself, each value of it. */
+#define WWT_ALIGNED __attribute__((aligned(WWT_BLOCK)))
+
+/* As many nodes as a machine has at most. */
+#define WWT_MOST_NODES 32
+
 #if defined __riscv && !defined HOST
 
 enum wwt_call {

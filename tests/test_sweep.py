@@ -60,6 +60,13 @@ class SweepTest(ToolTest):
         self.refused("no whole blocks of 64", "--images", "a.bin", "--wwt", self.wwt, "--set",
                      "block_bytes=64", "--shared-bytes", 100, folder=self.room)
 
+    def test_columns(self):
+        ran = self.sweep("--set", "nodes=1,2", "--columns", "nodes,time,latency")
+        self.assertEqual((ran.stdout, ran.returncode),
+                         ("nodes,time,latency\n1,1100,100\n2,600,100\n", 0))
+        self.refused("'tim' is no column", "--columns", "tim", "--images", "a.bin", "--wwt",
+                     self.wwt, folder=self.room)
+
     def test_a_base(self):
         base = os.path.join(self.room, "base.json")
         write(base, '{"version": 1, "latency": 7, "costs": {"op": 3}, "images": []}')

@@ -1,9 +1,10 @@
 #!/usr/bin/env bash
-# Holds wwt to a C compiler. It builds each program examples/*.c for RV32I, runs it by `wwt flat`, and compares what it
-# prints with what the same program prints when it is built for this machine. The programs for several nodes it also
-# builds as executables, runs them by `wwt run` on the machines of examples/*.json, and compares what node 0 prints with
-# the stored texts examples/*.txt. The stored executables are run so, too, with or without a compiler. Says a line for
-# each program, and fails where one can't be built, doesn't end itself by the code 0 or prints something else.
+# Holds wwt to a C compiler. It builds each program examples/*.c for RV32I, runs it on one node, and compares what it
+# prints with what the same program prints when it is built for this machine. A program for one node is run by `wwt flat`,
+# one that has a machine examples/*.json by `wwt run`, on this machine with one node. The latter are also run on the
+# machines as they stand, and what node 0 prints is compared with the stored texts examples/*.txt. The stored executables
+# are run so, too, with or without a compiler. Says a line for each program, and fails where one can't be built, doesn't
+# end itself by the code 0 or prints something else.
 #
 #     tools/check_c_programs.sh [WWT]
 #
@@ -34,14 +35,28 @@ trap 'rm -rf "$room"' EXIT
 build_for_rv32i() {
     local at=$top/examples
     "$target-gcc" "${rv32i[@]}" -O2 -Wall -Wextra -ffreestanding -nostdlib -T "$at/$3" "${@:4}" \
-        -o "$room/$2" "$at/start.s" "$at/$1" -lgcc
+        -o "$room/$2" "$at/start.s" "$at/$1" "$at/mem.c" -lgcc
 }
 
-# Builds the program of the name $1 for RV32I and for this machine.
+# Builds the program of the name $1 for one node, and for this machine.
 build() {
-    build_for_rv32i "$1.c" "$1.flat" flat.ld \
-        && "$target-objcopy" -O binary "$room/$1.flat" "$room/$1.bin" \
-        && cc -DHOST -O2 -Wall -Wextra -o "$room/$1.host" "$top/examples/$1.c"
+    cc -DHOST -O2 -Wall -Wextra -o "$room/$1.host" "$top/examples/$1.c" || return 1
+    if [ -f "$top/examples/$1.json" ]; then
+        build_for_rv32i "$1.c" "$1.elf" machine.ld
+    else
+        build_for_rv32i "$1.c" "$1.flat" flat.ld \
+            && "$target-objcopy" -O binary "$room/$1.flat" "$room/$1.bin"
+    fi
+}
+
+# Runs the program of the name $1, which was built, on one node.
+simulate_alone() {
+    if [ -f "$room/$1.bin" ]; then
+        simulate "$1" flat <"$room/$1.bin"
+    else
+        sed 's/"nodes": *[0-9]*/"nodes": 1/' "$top/examples/$1.json" >"$room/$1.json" \
+            && simulate "$1" run "$1.json"
+    fi
 }
 
 # The bytes of standard input as pairs of hexadecimal digits.
@@ -104,7 +119,7 @@ check() {
     timeout 60 "$room/$1.host" </dev/null >"$room/$1.text"
     status=$?
     [ "$status" = 0 ] || { echo "FAILED, built for this machine it ended by the status $status"; return 1; }
-    simulate "$1" flat <"$room/$1.bin" || return 1
+    simulate_alone "$1" || return 1
     compare "$1" "$room/$1.text"
 }
 
@@ -116,9 +131,16 @@ check_machine() {
     run_machine "$1" "$2"
 }
 
+# The machines that print the same with a lock or a sum, packed or not, with annotations or without: each with the option
+# that its program is built by.
+machines=(sum ring stencil stencil_plain:-DPLAIN matmul radix radix_plain:-DPLAIN count count_sum:-DSUM
+    sharing sharing_packed:-DPACKED)
+
 failed=0
-check_stored stencil stencil || failed=1
-check_stored stencil_plain stencil || failed=1
+for machine in "${machines[@]}"; do
+    name=${machine%%:*}
+    check_stored "$name" "${name%%_*}" || failed=1
+done
 [ "$failed" = 0 ] || exit 1
 
 for tool in "$target-gcc" "$target-objcopy" cc; do
@@ -129,10 +151,13 @@ done
     || skip "$target-gcc has no libgcc for RV32I"
 
 for source in "$top"/examples/*.c; do
-    check "$(basename "$source" .c)" || failed=1
+    name=$(basename "$source" .c)
+    [ "$name" = mem ] || check "$name" || failed=1
 done
-check_machine sum sum || failed=1
-check_machine ring ring || failed=1
-check_machine stencil stencil || failed=1
-check_machine stencil_plain stencil -DPLAIN || failed=1
+for machine in "${machines[@]}"; do
+    name=${machine%%:*}
+    options=${machine#"$name"}
+    # (no option is no word)
+    check_machine "$name" "${name%%_*}" ${options#:} || failed=1
+done
 exit "$failed"

@@ -251,7 +251,7 @@ def tell_differences(runs, log, keys):
 
 def sweep(words, runs):
     log, keys = Log(words.log), [key for key, _ in words.set]
-    writer = csv.DictWriter(sys.stdout, COLUMNS, lineterminator="\n", extrasaction="ignore")
+    writer = csv.DictWriter(sys.stdout, words.columns, lineterminator="\n", extrasaction="ignore")
     writer.writeheader()
     rows, waiting = [], list(runs)
     for _ in itertools.chain([None], run_all(runs, words, log)):
@@ -272,6 +272,15 @@ def read_setting(text):
         return name, [int(value) for value in values.split(",")]
     except ValueError:
         raise ToolError(f"--set {text}: the values aren't whole numbers") from None
+
+
+def read_columns(text):
+    """The names of columns, as a list."""
+    names = text.split(",")
+    for name in names:
+        if name not in COLUMNS:
+            raise ToolError(f"--columns: '{name}' is no column of a study")
+    return names
 
 
 def read_base(path):
@@ -350,6 +359,8 @@ def words_of():
     parser.add_argument("--base", metavar="MACHINE", help="a description with the other fields")
     parser.add_argument("--shared-bytes", type=int, metavar="N",
                         help="how large shared memory is, whatever block_bytes is (as in the base)")
+    parser.add_argument("--columns", metavar="NAME,NAME..", default=",".join(COLUMNS),
+                        help="only these columns, in this order")
     parser.add_argument("--jobs", type=int, default=1, metavar="N", help="runs at once (1)")
     parser.add_argument("--budget", type=int, metavar="B", help="no event at or past this cycle")
     parser.add_argument("--timeout", type=float, metavar="SECONDS", help="for each run")
@@ -363,6 +374,7 @@ def words_of():
     add_program(parser)
     words = parser.parse_args()
     words.set = [read_setting(text) for text in words.set]
+    words.columns = read_columns(words.columns)
     return words
 
 

@@ -1,6 +1,6 @@
 """The fields of a machine, with their defaults and ranges, and descriptions that have them.
 
-They are those of docs/formats.md, The machine description. A test holds them to `wwt check`.
+They are those of docs/machine.md, Parameters. A test holds them to `wwt check`.
 """
 LONG = 1 << 40
 # name: default (None: required, or the latency), least, greatest
