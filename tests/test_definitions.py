@@ -11,8 +11,13 @@ import definitions
 FILES = {
     "crates/wwt_run/src/top.rt": """ghost use Rattle.wwt_run.specs.Answer.{Headline, Other};
 
-pub fn wwt_plain() -> u32
+pub fn wwt<R: Wait>(rt: &R) -> u32
     ensures headline { Headline result }
+{
+    0
+}
+
+pub fn wwt_plain<S>() -> u32
     ensures other { Other result → Headline result }
 {
     0

@@ -128,19 +128,20 @@ class Definitions:
 
 
 def clauses(top, definitions):
-    """The definitions that each clause of the top call names."""
+    """The definitions that each clause of the top calls names."""
     with open(os.path.join(top, TOP_CALL), encoding="utf-8") as file:
         text = file.read()
     uses = {}
     for line in text.splitlines():
         if line.startswith("ghost use "):
             uses.update(imports(line))
-    contract = text[text.index("pub fn wwt_plain"):text.index("\n{\n")]
-    found = {}
-    for name, clause in re.findall(r"ensures (\w+) \{(.*?)\}", contract, re.DOTALL):
-        words = WORD.findall(clause)
-        found[name] = [one for word in words if word in uses
-                       for one in definitions.meant(uses[word])]
+    found = collections.defaultdict(list)
+    for call in ("pub fn wwt<", "pub fn wwt_plain<"):
+        begin = text.index(call)
+        contract = text[begin:text.index("\n{\n", begin)]
+        for name, clause in re.findall(r"ensures (\w+) \{(.*?)\}", contract, re.DOTALL):
+            found[name] += [one for word in WORD.findall(clause) if word in uses
+                            for one in definitions.meant(uses[word])]
     return found
 
 
