@@ -19,6 +19,6 @@ pub returns-in-Ok-clause-writes : goal.returns-in-Ok-clause-writes
 returns-in-Ok-clause-writes g c =
     writes_done (written_by (is_written c.args.options.now c.args.engine.now c.head-head.result c.stations-stations.result.now c.requires c.head-head.ensures c.stations-stations.ensures.value c.machine.result.now c.machine.ensures (Ok c.in-Ok.field-0) _ _ _ c.in-Ok.ensures))
 
-pub returns-clause-writes : goal.returns-clause-writes
-returns-clause-writes g c =
+pub returns-in-Err-clause-writes : goal.returns-in-Err-clause-writes
+returns-in-Err-clause-writes g c =
     writes_failed (is_written c.args.options.now c.args.engine.now c.head-head.result c.stations-stations.result.now c.requires c.head-head.ensures c.stations-stations.ensures.value c.machine.result.now c.machine.ensures (Err c.in-Err.fault) _ _ _ c.in-Err.ensures)
