@@ -9,6 +9,7 @@ mod head;
 mod stations;
 
 pub use self::engine::{Engine, Round};
+pub use stations::earliest;
 
 #[cfg(test)]
 mod tests;
