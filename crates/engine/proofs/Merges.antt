@@ -1,6 +1,6 @@
 -- Stations that have run, and were each given a merge of what the others sent it, are those of the world after the round.
 use Rattle.std.proofs.Common.{◌≡◌, ◌≢◌, ℕ, zero, suc, ◌+◌, ◌<◌, List, [], ◌∷◌, length, map, Bool, false, cond, Some, refl, ap, sym, ◌∙◌, subst, inl, inr, ◌==◌, arith, eq-eqb}
-use Rattle.std.specs.Prelude.{⊤, flat_map, if◌then◌else◌}
+use Rattle.std.specs.Prelude.{flat_map, if◌then◌else◌}
 use Rattle.std.specs.List.{filter}
 use Rattle.wt_params.specs.declared.parts.MachineParts.{MachineParts}
 use Rattle.wt_proto.specs.declared.key.Key.{Key}
@@ -29,7 +29,7 @@ use Rattle.quantum.specs.FreeRuns.{run_to_of}
 use Rattle.quantum.specs.Stations.{StationModel, MayAccept, accept_of, station_of}
 use Rattle.quantum.specs.World.{World}
 use Rattle.engine.specs.Engine.{EngineModel, IsRunning, nodes_of, world_of}
-use Rattle.engine.specs.Quantum.{AreHandedOut, HaveAdvanced, HaveExchanged, changed_at, delivered, given, handed_to, ran_to}
+use Rattle.engine.specs.Quantum.{AreHandedOut, HaveAdvanced, HaveExchanged, MayBeGiven, changed_at, delivered, given, handed_to, ran_to}
 use Rattle.engine.proofs.Places.{nodes_changed}
 use Rattle.engine.proofs.Deliveries.{HasRun}
 use Rattle.engine.proofs.Owned.{its, laws, member_node, part, wind}
@@ -44,11 +44,6 @@ given_station (l ∷ ls) t = given_station ls (accept_of l t)
 given_run : (machine : MachineParts) (time : ℕ) (ls : List Stamped) (t : StationModel) → HasRun machine time t → HasRun machine time (given ls t)
 given_run machine time [] t ran = ran
 given_run machine time (l ∷ ls) t ran = given_run machine time ls (accept_of l t) (record { machine_is = ran.machine_is; ran = ran.ran })
-
--- each of some messages may be given to a station once those before it are
-abbrev pub MayBeGiven : List Stamped → StationModel → Type 0
-MayBeGiven [] station = ⊤
-MayBeGiven (letter ∷ letters) station = MayAccept station letter × MayBeGiven letters (accept_of letter station)
 
 -- ---- messages in any order, by the stations that they name
 

@@ -102,6 +102,11 @@ abbrev pub given : List Stamped → StationModel → StationModel
 given [] station = station
 given (letter ∷ letters) station = given letters (accept_of letter station)
 
+-- each of some messages may be given to a station once those before it are
+abbrev pub MayBeGiven : List Stamped → StationModel → Type 0
+MayBeGiven [] station = ⊤
+MayBeGiven (letter ∷ letters) station = MayAccept station letter × MayBeGiven letters (accept_of letter station)
+
 -- Stations have run up to a time, and then each was given a merge of what the others have sent it.
 pub record HaveAdvanced (until : ℕ) (before after : List StationModel) : Type 0 where
   pub letters : ℕ → List Stamped

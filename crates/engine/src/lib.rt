@@ -10,3 +10,4 @@ mod parts;
 mod stations;
 
 pub use self::engine::{Engine, Round};
+pub use stations::earliest;

@@ -8,6 +8,8 @@ mod event_rows;
 #[cfg(test)]
 mod events;
 #[cfg(test)]
+mod interleavings;
+#[cfg(test)]
 mod listings;
 #[cfg(test)]
 mod reports;
