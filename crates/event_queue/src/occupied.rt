@@ -35,6 +35,7 @@ impl Occupied {
     }
 
     /// Marks a place.
+    #[inline(always)]
     pub fn set(&mut self, place: usize)
         requires { place < CYCLES }
         ensures this { mark_at place self.new ≡ 1 }
@@ -45,6 +46,7 @@ impl Occupied {
     }
 
     /// Takes the mark of a place away.
+    #[inline(always)]
     pub fn clear(&mut self, place: usize)
         requires { place < CYCLES }
         ensures this { mark_at place self.new ≡ 0 }
@@ -55,6 +57,7 @@ impl Occupied {
     }
 
     /// The first place that is marked. None exactly where no place is.
+    #[inline(always)]
     pub fn first(&self) -> Option<usize>
         ensures { MatchOption result ((place : ℕ) → place < CYCLES → mark_at place self.now ≡ 0) (λ first. IsFirstMark first self.now) }
     {

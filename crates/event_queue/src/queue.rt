@@ -45,6 +45,7 @@ impl Queue {
 
     /// Puts a message in its place by its key. Where memory is refused, the message comes back and the queue stays
     /// as it was.
+    #[inline(always)]
     pub fn insert<L: Ledger>(&mut self, message: Stamped, steps: &mut Steps<L>) -> Result<(), Back>
         requires new_key { HasNoKey (key_of message) self.old }
         ensures ok { OnOk result (self.new ≡ insert_of message self.old) }
@@ -62,6 +63,7 @@ impl Queue {
     }
 
     /// The least key. None exactly where there is no message.
+    #[inline(always)]
     pub fn peek<L: Ledger>(&self, steps: &mut Steps<L>) -> Option<Key>
         ensures value { result ≡ peek_of self.now }
         ensures rising { IsRising self.now }
@@ -74,6 +76,7 @@ impl Queue {
     }
 
     /// Takes the message of the least key out. None exactly where there is no message.
+    #[inline(always)]
     pub fn pop<L: Ledger>(&mut self, steps: &mut Steps<L>) -> Option<Stamped>
         ensures value { MatchOption result ((self.old ≡ []) × (self.new ≡ [])) (λ message. self.old ≡ message ∷ self.new) }
         ensures rising { IsRising self.new }

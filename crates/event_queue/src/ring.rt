@@ -39,6 +39,7 @@ impl Ring {
     }
 
     /// Whether a message of this time has its place here.
+    #[inline(always)]
     pub fn is_near(&self, time: u64) -> bool
         ensures { IsTrue result ↔ IsNear self.now time }
     {
@@ -50,6 +51,7 @@ impl Ring {
 
     /// Puts a message in its place by its key. Where memory is refused, the message comes back and the others stay as
     /// they were.
+    #[inline(always)]
     pub fn insert(&mut self, message: Stamped) -> Result<(), Back>
         requires near { IsNear self.old message.time }
         requires new_key { HasNoKey (key_of message) self.old.messages }
@@ -65,6 +67,7 @@ impl Ring {
     }
 
     /// The base with a message of this time: the time itself where there are no messages.
+    #[inline(always)]
     fn base_for(&self, time: u64) -> u64
         requires { IsNear self.now time }
         ensures low { result ≤ time }
@@ -78,6 +81,7 @@ impl Ring {
     }
 
     /// The least key. None exactly where there is no message.
+    #[inline(always)]
     pub fn peek(&self) -> Option<Key>
         ensures value { result ≡ peek_of self.now.messages }
         ensures rising { IsRising self.now.messages }
@@ -89,6 +93,7 @@ impl Ring {
     }
 
     /// Takes the message of the least key out. None exactly where there is no message.
+    #[inline(always)]
     pub fn pop(&mut self) -> Option<Stamped>
         ensures value { MatchOption result ((self.old.messages ≡ []) × (self.new.messages ≡ [])) (λ message. self.old.messages ≡ message ∷ self.new.messages) }
         ensures rising { IsRising self.new.messages }

@@ -43,6 +43,7 @@ impl Slots {
 
     /// Puts a message into the row of a place. Where memory is refused, the message comes back and the rows stay as they
     /// were.
+    #[inline(always)]
     pub fn put(&mut self, place: usize, message: Stamped) -> Result<(), Back>
         requires within { place < CYCLES }
         requires new_key { HasNoKey (key_of message) (slice_index_or self.old place []) }
@@ -65,6 +66,7 @@ impl Slots {
     }
 
     /// The first place that has messages. None exactly where there are none.
+    #[inline(always)]
     pub fn first(&self) -> Option<usize>
         ensures { MatchOption result (joined self.now ≡ []) (λ place. IsFirstFilled place self.now) }
     {
@@ -72,6 +74,7 @@ impl Slots {
     }
 
     /// The least key of a place.
+    #[inline(always)]
     pub fn peek(&self, place: usize) -> Option<Key>
         ensures { result ≡ peek_of (slice_index_or self.now place []) }
     {
@@ -82,6 +85,7 @@ impl Slots {
     }
 
     /// Takes the first message of a place out.
+    #[inline(always)]
     pub fn take(&mut self, place: usize) -> Option<Stamped>
         requires { place < CYCLES }
         ensures rows { self.new ≡ slice_set self.old place (slice_index_or self.new place []) }
@@ -110,6 +114,8 @@ fn make(rows: &mut Vec<Sorted>) -> Result<(), AllocError>
     Ok(())
 }
 
+#[cold]
+#[inline(never)]
 fn empty_rows(alloc: Global) -> Result<Vec<Sorted>, AllocError>
     ensures { IfOk result (λ rows. rows.items ≡ padded []) }
 {

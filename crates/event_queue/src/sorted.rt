@@ -37,6 +37,7 @@ impl Sorted {
     }
 
     /// Whether there is no message.
+    #[inline(always)]
     pub fn is_empty(&self) -> bool
         ensures { IsTrue result ↔ (self.now ≡ []) }
     {
@@ -45,6 +46,7 @@ impl Sorted {
 
     /// Puts a message in its place by its key. Where memory is refused, the message comes back and the others stay as
     /// they were.
+    #[inline(always)]
     pub fn insert(&mut self, message: Stamped) -> Result<(), Back>
         requires new_key { HasNoKey (key_of message) self.old }
         ensures ok { OnOk result (self.new ≡ insert_of message self.old) }
@@ -62,6 +64,7 @@ impl Sorted {
     }
 
     /// The place for a message of this key: all those before it have lesser keys, and no other has.
+    #[inline(always)]
     fn place(&self, key: Key) -> usize
         ensures bound { result ≤ length self.now }
         ensures before { AllWithin (λ message. is_before key message ≡ true) self.now 0 result }
@@ -72,6 +75,7 @@ impl Sorted {
     }
 
     /// The least key. None exactly where there is no message.
+    #[inline(always)]
     pub fn peek(&self) -> Option<Key>
         ensures value { result ≡ peek_of self.now }
         ensures rising { IsRising self.now }
@@ -80,6 +84,7 @@ impl Sorted {
     }
 
     /// Takes the message of the least key out. None exactly where there is no message.
+    #[inline(always)]
     pub fn pop(&mut self) -> Option<Stamped>
         ensures value { MatchOption result ((self.old ≡ []) × (self.new ≡ [])) (λ message. self.old ≡ message ∷ self.new) }
         ensures rising { IsRising self.new }
