@@ -40,7 +40,7 @@ pub record IsLeastOut (sim : Simulation NodeState Msg) (core : Core NodeState Ms
 abbrev pub IsNoNode : ℕ → ℕ → ℕ → ℕ → Type 0
 IsNoNode nodes from to node = ((nodes ≤ from) × (node ≡ from)) ⊎ ((from < nodes) × (nodes ≤ to) × (node ≡ to))
 
--- the nodes of a deposit, of which the source is done or isn't
+-- both nodes of a deposit are there
 pub record IsBetweenNodes (nodes from to : ℕ) : Type 0 where
   pub source : from < nodes
   pub dest : to < nodes
