@@ -67,7 +67,7 @@ left_ran_none words store s status left = none_ran words store s status
 
 has_some : (machine : MachineParts) (loaded : LoadedImages) (traced : Bool) (ran : Option EngineModel) → HaveRun machine loaded traced ran → IsSome ran
 has_some machine loaded traced None have = absurd have
-has_some machine loaded traced (Some engine) have = tt
+has_some machine loaded traced (Some engine) have = refl
 
 job_has_some : (job : Job) (ran : Option EngineModel) → 1 < workers_of_job job → HaveRunJob job ran → IsSome ran
 job_has_some (Check machine loaded) ran many have = absurd (omega arith)
@@ -85,7 +85,7 @@ job_has_run words store s job status None threaded workers is have found = recor
   told = λ files told. tt;
 }
 job_has_run words store s job status (Some engine) threaded workers is have found = record {
-  some = λ _ done. tt;
-  job = (threaded, subst IsDone (sym is) (job_is_done job), job, have);
+  some = λ _ done. refl;
+  job = (threaded, subst IsDone (sym is) (job_is_done job), (job, have));
   told = λ files told. (job, found files told, have);
 }

@@ -1,8 +1,8 @@
-use Rattle.std.proofs.Common.{Ok, Err, sym, ◌∙◌, subst, refl}
+use Rattle.std.proofs.Common.{Ok, sym, ◌∙◌, subst}
 use Rattle.std.specs.Prelude.{All}
 use Rattle.engine.specs.Engine.{IsStationOf}
 use Rattle.wwt_run.proofs.RunLemmas.{are_stations, is_written, is_status}
-use Rattle.wt_outside.proofs.WriteLemmas.{writes_done, writes_failed, written_by}
+use Rattle.wt_outside.proofs.WriteLemmas.{writes_done, written_by}
 use Rattle.wt_report.specs.Stations as places
 use Rattle.wwt_run.proofs.run.tell.Goals as goal
 
@@ -18,7 +18,3 @@ returns-in-Ok-clause-status g c = c.status_after.ensures ∙ is_status c.args.op
 pub returns-in-Ok-clause-writes : goal.returns-in-Ok-clause-writes
 returns-in-Ok-clause-writes g c =
     writes_done (written_by (is_written c.args.options.now c.args.engine.now c.head-head.result c.stations-stations.result.now c.requires c.head-head.ensures c.stations-stations.ensures.value c.machine.result.now c.machine.ensures (Ok c.in-Ok.field-0) _ _ _ c.in-Ok.ensures))
-
-pub returns-in-Err-clause-writes : goal.returns-in-Err-clause-writes
-returns-in-Err-clause-writes g c =
-    writes_failed (is_written c.args.options.now c.args.engine.now c.head-head.result c.stations-stations.result.now c.requires c.head-head.ensures c.stations-stations.ensures.value c.machine.result.now c.machine.ensures (Err c.in-Err.fault) _ _ _ c.in-Err.ensures)
