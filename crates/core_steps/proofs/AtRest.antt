@@ -43,7 +43,7 @@ module _ (machine : MachineParts) (numbers : IsMachine machine) (core : Core Nod
   begun = (amid machine numbers core r).begun
 
   abbrev engine : EngineModel
-  engine = record { machine = machine; stations = models; kept_end = core.kept_end; quanta = core.quanta; broken = false }
+  engine = record { machine = machine; stations = models; kept_end = core.kept_end; quanta = core.quanta; threaded = 0; broken = false }
 
   same : core ≡ core_of sim begun
   same = (amid machine numbers core r).rest rest
@@ -72,6 +72,7 @@ module _ (machine : MachineParts) (numbers : IsMachine machine) (core : Core Nod
     world = subst (IsWorldOf machine) (sym world_is) (world_then machine numbers core r);
     between = subst (IsBetweenQuanta sim) (sym world_is) (amid machine numbers core r).none_left;
     counted = subst (λ (w : World). w.quanta ≤ handled_in sim w) (sym world_is) (counted_then machine numbers core r);
+    threads = omega arith;
   }
 
   mapped : (o : Option (Key × Event Msg)) → option_map (quantum_end sim) (option_map (λ (e : Key × Event Msg). e.0.time) o) ≡ option_map (λ (e : Key × Event Msg). quantum_end sim e.0.time) o
