@@ -4,7 +4,10 @@ ghost use Rattle.discrete_events.specs.Round.{rounds};
 ghost use Rattle.discrete_events.specs.Laws.{IsSerialFrom};
 ghost use Rattle.discrete_events.specs.Couriers.{couriers, couriers_at_start, counts_in};
 
-use discrete_events::{Courier, every_interleaving, keys_are_new, keys_rise, late_message_passes, least_event_peels, merges_are_rounds, no_past, round_is_serial, serial_run_ends};
+use discrete_events::{
+    Courier, every_interleaving, keys_are_new, keys_rise, late_message_passes, least_event_peels,
+    merges_are_rounds, no_past, round_is_serial, serial_run_ends,
+};
 
 /// Three rounds of the couriers are 24 steps of their serial run, with the counts that were computed by hand.
 fn three_rounds_are_serial()

@@ -1,4 +1,6 @@
-use rv_word::{AluOp, BranchOp, alu, bits, branch_taken, imm_b, imm_i, imm_j, imm_s, imm_u, sign_extend};
+use rv_word::{
+    AluOp, BranchOp, alu, bits, branch_taken, imm_b, imm_i, imm_j, imm_s, imm_u, sign_extend,
+};
 
 /// Each operation and each condition on some operands, by the manual.
 #[test]

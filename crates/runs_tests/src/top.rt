@@ -33,7 +33,9 @@ fn two_workers_are_left_to_threads(rt: HostRuntime) -> Result<(), Fail> {
     assert!(rt; wwt_plain(alloc, &words, &mut store, &mut out, &mut err).is_none());
     assert_eq!(rt; err.bytes(), b"".as_slice());
     let mut ran = None;
-    let status = wwt(&rt, alloc, &words, &mut store, &mut out, &mut err, &OpenGate, &mut ran);
+    let status = wwt(
+        &rt, alloc, &words, &mut store, &mut out, &mut err, &OpenGate, &mut ran,
+    );
     assert_eq!(rt; status.code(), 8);
     assert_eq!(rt; err.bytes(), b"wwt: cannot read m\n".as_slice());
     assert!(rt; ran.is_none());

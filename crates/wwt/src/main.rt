@@ -14,10 +14,21 @@ fn main(rt: HostRuntime) -> ExitCode {
     let mut err = ErrSink::new(rt.stderr());
     let (alloc, mut ran) = (rt.alloc(), None);
     let status = match words(&rt) {
-        Ok(words) => wwt(&rt, alloc, &words, &mut store, &mut out, &mut err, &OpenGate, &mut ran),
+        Ok(words) => wwt(
+            &rt, alloc, &words, &mut store, &mut out, &mut err, &OpenGate, &mut ran,
+        ),
         Err(error) if error.kind() == io::ErrorKind::OutOfMemory => out_of_memory(&mut err),
         // A word that isn't text is refused as no words are.
-        Err(_) => wwt(&rt, alloc, &[], &mut store, &mut out, &mut err, &OpenGate, &mut ran),
+        Err(_) => wwt(
+            &rt,
+            alloc,
+            &[],
+            &mut store,
+            &mut out,
+            &mut err,
+            &OpenGate,
+            &mut ran,
+        ),
     };
     ExitCode::from(status.code())
 }

@@ -52,7 +52,9 @@ pub fn play<R: AllocGlobal + Threads + Wait + Sync>(
 fn words_of_run(words: &[String]) -> Option<&[String]> {
     match words {
         [name, rest @ ..] if name.as_str() == "run" || name.as_str() == "load" => {
-            let says = rest.iter().any(|word| word.as_str().starts_with("--workers"));
+            let says = rest
+                .iter()
+                .any(|word| word.as_str().starts_with("--workers"));
             if says { None } else { Some(rest) }
         }
         _ => None,
@@ -93,7 +95,9 @@ fn play_words<R: AllocGlobal + Threads + Wait + Sync>(
     let mut out = sink(alloc, OUTPUT_ROOM, &row.failing_writes, row.kept)?;
     let mut err = sink(alloc, ERROR_ROOM, &row.failing_error_writes, 0)?;
     let mut ran = None;
-    let status = wwt(rt, alloc, words, &mut store, &mut out, &mut err, &OpenGate, &mut ran);
+    let status = wwt(
+        rt, alloc, words, &mut store, &mut out, &mut err, &OpenGate, &mut ran,
+    );
     let ran = Ran {
         status: status.code(),
         out: out.bytes(),

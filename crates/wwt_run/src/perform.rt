@@ -34,7 +34,9 @@ pub fn perform<K: Sink>(alloc: Global, job: &Job, out: &mut K) -> Result<Status,
             ..
         } => run(alloc, machine, loaded, &asked(*trace, *memory), out),
         Job::Load {
-            machine, loaded, ..
+            machine,
+            loaded,
+            ..
         } => run(alloc, machine, loaded, &summary(), out),
     }
 }
