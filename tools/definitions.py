@@ -5,7 +5,7 @@
     tools/definitions.py --files    for each file, how many definitions are of each kind
     tools/definitions.py --check    holds the marks and figures of the docs to the counts
 
-It begins at the clauses of `wwt_plain` (crates/wwt_run/src/top.rt) and follows the names in each
+It begins at the clauses of `wwt` and `wwt_plain` (crates/wwt_run/src/top.rt) and follows the names in each
 definition. A definition is *of the headline* where the clause `headline` comes to it, *beside* it
 where only another clause does, and else *inner*: a contract further down cites it, or a proof.
 

@@ -183,7 +183,7 @@ def call_of(picture, x, y, crate, code, definition, does, colour):
 
 def layers():
     picture = Picture(900, 626)
-    call_of(picture, 315, 10, "wwt_run", "wwt_plain", "output_of, status_of (wanted words files)",
+    call_of(picture, 315, 10, "wwt_run", "wwt, wwt_plain", "output_of, status_of (case_of words files)",
             "what words and files call for", BLUE)
     call_of(picture, 15, 124, "wwt_case", "prepare", "case_of", "the machine, or the first refusal",
             GREEN)
@@ -191,7 +191,7 @@ def layers():
     call_of(picture, 615, 124, "wt_report", "write_report", "report", "the lines of that world", GREEN)
     for x in (150, 450, 750):
         picture.line(f"M450 86 L{x} 124")
-    call_of(picture, 315, 228, "engine", "round_plain", "serial, some steps", "one quantum of all nodes",
+    call_of(picture, 315, 228, "engine", "round, round_plain", "serial, some steps", "one quantum of all nodes",
             PURPLE)
     call_of(picture, 315, 332, "quantum", "run_to", "local", "one node alone, up to a time", PURPLE)
     call_of(picture, 315, 436, "node", "handle_step, handle_message", "react",
