@@ -1,13 +1,17 @@
 #!/usr/bin/env python3
 """Measures how fast wwt simulates.
 
-    tools/benchmark.py [WWT..]
+    tools/benchmark.py [--workers] [WWT..]
 
 Each WWT is a built program, crates/wwt/out/wwt if none is given. Several are called by turns, so that what else the
 machine does tells on all of them alike. No compiler is needed: the programs that are simulated are made here, word by
 word, or by `wwt load`.
 
-What is measured: a whole call, from its start to the end of its report, of each of these.
+With `--workers`, what is measured is how much faster the same run gets by 2 and by 4 workers: arithmetic of private
+registers, as many instructions in all whatever the nodes, on 8 and on 32 nodes, at latencies, which are the quanta
+too, of 10 to 10000 cycles. The best of five calls by the wall clock counts.
+
+Without, what is measured: a whole call, from its start to the end of its report, of each of these.
 
   flat: arithmetic, flat: memory     `wwt flat` on a program that never ends, so that it runs into the budget of a
                                      million cycles, which is a million instructions. One does arithmetic alone, each of
@@ -20,8 +24,9 @@ What is measured: a whole call, from its start to the end of its report, of each
   load 92, load 93                   the generated machines of these numbers: all to all on 32 nodes, and a stencil
 
 Each is called RUNS times, and the best call counts, since a single call takes so little time that what else the machine
-does would tell. A program that refuses the words has no line. Two times are taken: the wall clock's, and the processor time of the call, which says more on a machine
-that is busy with other things too. Each is the best of its own. An event is an instruction or a message.
+does would tell. A program that refuses the words has no line. Two times are taken: the wall clock's, and the processor
+time of the call, which says more on a machine that is busy with other things too. Each is the best of its own. An event
+is an instruction or a message.
 """
 import json
 import os
@@ -31,6 +36,9 @@ import tempfile
 import time
 
 RUNS = 50
+# Of runs by workers: how often each is called, and how many instructions all its nodes do together
+CALLS_BY_WORKERS = 5
+WORK = 4000000
 PIPES = {"stdout": subprocess.PIPE, "stderr": subprocess.DEVNULL}
 
 
@@ -94,10 +102,10 @@ def image(words):
     return b"".join(word.to_bytes(4, "little") for word in words)
 
 
-def machine(nodes, budget, words):
+def machine(nodes, budget, words, **numbers):
     """The description of a machine all of whose nodes run these words until the budget is spent."""
     images = [{"hex": image(words).hex()}]
-    return json.dumps({"version": 1, "nodes": nodes, "budget": budget, "images": images}).encode()
+    return json.dumps({"version": 1, "nodes": nodes, "budget": budget, "images": images, **numbers}).encode()
 
 
 class Case:
@@ -163,14 +171,41 @@ def measure(programs, case):
         print(f"{case.name}{by}: {events} event{'s' * (events > 1)} in {times}{rates}", flush=True)
 
 
+def measure_workers(wwt, nodes, latency):
+    """Says in one line how long a run takes by 1, 2 and 4 workers."""
+    words = endless(BEGIN, ARITHMETIC)
+    description = machine(nodes, WORK // nodes, words, latency=latency, quantum=latency)
+    best = {}
+    with tempfile.TemporaryDirectory() as room:
+        for _ in range(CALLS_BY_WORKERS):
+            for workers in (1, 2, 4):
+                call = Case(f"{workers} workers", ["run", "--workers", str(workers), "machine.json"], "budget",
+                            described=description)
+                called = call.call(wwt, room)
+                if called is None:
+                    sys.exit(f"{wwt} refuses --workers {workers}")
+                best[workers] = min(called[1], best.get(workers, called[1]))
+    one = best.pop(1)
+    others = "".join(f", {took * 1000:.0f} by {workers} ({one / took:.2f} times as fast)" for workers, took in best.items())
+    print(f"{nodes} nodes, latency {latency}: {one * 1000:.0f} ms by 1 worker{others}", flush=True)
+
+
 def main():
     top = os.path.dirname(os.path.dirname(os.path.abspath(__file__)))
-    programs = list(map(os.path.abspath, sys.argv[1:])) or [f"{top}/crates/wwt/out/wwt"]
+    by_workers = "--workers" in sys.argv[1:]
+    given = [word for word in sys.argv[1:] if word != "--workers"]
+    programs = list(map(os.path.abspath, given)) or [f"{top}/crates/wwt/out/wwt"]
     for wwt in programs:
         if not os.access(wwt, os.X_OK):
             sys.exit(f"there is no built program {wwt}: run `rt run` in crates/wwt, or `rt ci` at the top")
-    for case in CASES:
-        measure(programs, case)
+    if by_workers:
+        for wwt in programs:
+            for nodes in (8, 32):
+                for latency in (10, 100, 1000, 10000):
+                    measure_workers(wwt, nodes, latency)
+    else:
+        for case in CASES:
+            measure(programs, case)
 
 
 main()
