@@ -73,10 +73,8 @@ impl Inbox {
         ensures back { IfErr result (λ back. (back.message ≡ message) × (pass.new ≡ pass.old)) }
         ensures order { TakesInOrder pass.new.view }
     {
-        match self
-            .queue
-            .push_as::<Deposited, _>(rt, &mut pass.seat, message)
-        {
+        let queue = &self.queue;
+        match queue.push_as::<Deposited, _>(rt, &mut pass.seat, message) {
             Ok(()) => Ok(()),
             Err(message) => Err(Back { message }),
         }
