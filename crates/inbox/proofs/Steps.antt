@@ -26,7 +26,7 @@ begins = record {
   owner = λ s. 0;
   fits = fits;
   owned = λ s below. (view_at_first, refl, (omega arith, below));
-  takes = (view_at_first, refl, refl, λ some. some);
+  takes = (view_at_first, refl, refl, λ any. any);
   history = All-nil (λ (m : Stamped). m.from < 4294967296);
 }
   where
@@ -38,7 +38,7 @@ begins = record {
 -- a view that is left behind fits every rule
 left_fits : (sources : ℕ) (taken items : List Stamped) (taker : ℕ) (owner : ℕ → ℕ) (seat : ℕ) → Fits sources taken items taker owner seat empty_view
 left_fits sources taken items taker owner seat = record {
-  range = λ used. ⊎_elim (λ (may : false ≡ true). absurd (true≢false (sym may))) (λ (some : 0 < 0). absurd (omega arith)) used;
+  range = λ used. ⊎_elim (λ (may : false ≡ true). absurd (true≢false (sym may))) (λ (any : 0 < 0). absurd (omega arith)) used;
   right = λ may. absurd (true≢false (sym may));
   parts = λ s has. absurd (omega arith);
 }
@@ -57,7 +57,7 @@ opens seat n v is few items views h at =
       owned = λ s below. has_more (λ u. HasSource u s) (set views seat (open_of n)) (h.owner s) empty_view
           (subst (HasAt (λ u. HasSource u s) (set views seat (open_of n))) (sym (all_mine s (omega arith)).0) (open_of n, here_set views seat v (open_of n) at, (omega arith, below)));
       takes = has_more (λ u. (u.takes ≡ true) × (0 < n → u.lo < u.hi)) (set views seat (open_of n)) seat empty_view
-          (open_of n, here_set views seat v (open_of n) at, refl, λ some. some);
+          (open_of n, here_set views seat v (open_of n) at, refl, λ any. any);
       history = subst (AreBelow n) (sym no_items) (All-nil (λ (m : Stamped). m.from < n));
     }
   where
@@ -214,7 +214,7 @@ cuts seat v mid low high items views h at =
           upper;
       owned = owned;
       takes = has_more (λ u. (u.takes ≡ true) × (0 < h.sources → u.lo < u.hi)) lowered h.taker (upper_of mid v)
-          (has_set (λ u. (u.takes ≡ true) × (0 < h.sources → u.lo < u.hi)) views seat h.taker v (lower_of mid v) at (λ is. (is.0, λ some. low)) h.takes);
+          (has_set (λ u. (u.takes ≡ true) × (0 < h.sources → u.lo < u.hi)) views seat h.taker v (lower_of mid v) at (λ is. (is.0, λ any. low)) h.takes);
       history = h.history;
     }
   where
@@ -383,6 +383,6 @@ module _ (seat : ℕ) (v : View) (other : ℕ) (w : View) (lo hi low high : ℕ)
       takes : HasAt (λ u. (u.takes ≡ true) × (0 < h.sources → u.lo < u.hi)) (set both other empty_view) (renamed other seat h.taker)
       takes = let a = range.1 in let b = their_range.1 in
           still (λ u. (u.takes ≡ true) × (0 < h.sources → u.lo < u.hi)) h.taker
-          (λ is. (or_left v.takes w.takes is.0, λ some. let wide = is.1 some in omega arith))
-          (λ is. (or_right v.takes w.takes is.0, λ some. let wide = is.1 some in omega arith))
+          (λ is. (or_left v.takes w.takes is.0, λ any. let wide = is.1 any in omega arith))
+          (λ is. (or_right v.takes w.takes is.0, λ any. let wide = is.1 any in omega arith))
           h.takes

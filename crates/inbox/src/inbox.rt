@@ -61,12 +61,7 @@ impl Inbox {
     }
 
     /// Puts a message in, at the end. Where memory is refused it comes back, and nothing has changed.
-    pub fn deposit(
-        &self,
-        rt: &impl Wait,
-        pass: &mut Pass,
-        message: Stamped,
-    ) -> Result<(), Back>
+    pub fn deposit(&self, rt: &impl Wait, pass: &mut Pass, message: Stamped) -> Result<(), Back>
         requires of { pass.old.of ≡ self.now }
         requires source { HasSource pass.old.view message.from }
         ensures ok { OnOk result (pass.new ≡ record (pass.old) { view = deposit_of message pass.old.view }) }

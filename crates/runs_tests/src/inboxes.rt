@@ -26,13 +26,7 @@ fn message(from: u32, sequence: u64) -> Stamped
 }
 
 /// Puts in so many messages of a source.
-fn put(
-    rt: &impl Wait,
-    inbox: &Inbox,
-    pass: Pass,
-    from: u32,
-    count: u64,
-) -> (Pass, Result<(), Back>)
+fn put(rt: &impl Wait, inbox: &Inbox, pass: Pass, from: u32, count: u64) -> (Pass, Result<(), Back>)
     requires of { pass.of ≡ inbox.now }
     requires source { HasSource pass.view from }
     ensures of { result.0.of ≡ pass.of }
