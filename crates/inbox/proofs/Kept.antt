@@ -1,6 +1,6 @@
 -- What each pass keeps, after each step; and what its calls tell.
 use Rattle.std.proofs.Common.{◌≡◌, ℕ, zero, suc, ◌<◌, ◌≤◌, ◌==◌, ◌||◌, Bool, true, false, true≢false, List, [], ◌∷◌, ◌++◌, map, inl, inr, sym, refl, ap, ◌∙◌, subst, append_assoc, append-nil, arith}
-use Rattle.std.specs.Prelude.{Result, Ok, Err, Option, Some, None, MatchResult, MatchOption}
+use Rattle.std.specs.Prelude.{Result, Ok, Err, Option, Some, None, MatchResult, MatchOption, IfNone}
 use Rattle.std.specs.List.{All}
 use Rattle.std.proofs.lemmas.List.Elements.{All-nil, All-push, All-same, All-append, All-weaker, recursion_from_All}
 use Rattle.wt_proto.specs.declared.message.Msg.{Msg}
@@ -139,7 +139,7 @@ put_in P R Q (Err y) lo hi takes v w x pass has m = subst (IsPass lo hi takes) (
 pub took : (P : Type 0) (r : Option Stamped) (lo hi : ℕ) (takes : Bool) (v w : View) → IsPass lo hi takes v → v.takes ≡ true →
     MatchOption r ((w ≡ v) × KnowsHeld v []) (λ x. Takes v x w × P) → IsPass lo hi takes w
 took P None lo hi takes v w pass may m = subst (IsPass lo hi takes) (sym m.0) pass
-took P (Some x) lo hi takes v w pass may m = subst (IsPass lo hi takes) (sym m.0) (after_take lo hi takes v x m.1 pass may m.2)
+took P (Some x) lo hi takes v w pass may m = subst (IsPass lo hi takes) (sym m.0.0) (after_take lo hi takes v x m.0.1 pass may m.0.2)
 
 -- ---- where nothing is left
 
@@ -153,3 +153,8 @@ merged v order all (lo, hi) = record {
       (all_in (λ (x : Stamped). x.from < v.sources) its.0 v.taken (recursion_from_All (λ (x : Stamped). x.from < v.sources) v.taken order.sources) its.1);
   parts = λ s below. filter_map (λ (m : Message Msg). m.0.from == s) under_key v.taken ∙ ap (map under_key) (all s (omega arith, omega arith));
 }
+
+pub merge_of : (P : Type 0) (r : Option Stamped) (lo hi : ℕ) (takes : Bool) (v w : View) → IsPass lo hi takes v → v.takes ≡ true →
+    MatchOption r ((w ≡ v) × KnowsHeld v []) (λ x. Takes v x w × P) → IfNone r (IsWhole w → HasTakenMerge w)
+merge_of P None lo hi takes v w pass may m = subst (λ (u : View). IsWhole u → HasTakenMerge u) (sym m.0) (merged v (pass.order may) (all_taken v may m.1))
+merge_of P (Some x) lo hi takes v w pass may m = tt

@@ -26,7 +26,7 @@ begins = record {
   owner = λ s. 0;
   fits = fits;
   owned = λ s below. (view_at_first, refl, (omega arith, below));
-  takes = (view_at_first, refl, refl, λ any. any);
+  takes = (view_at_first, refl, (refl, λ any. any));
   history = All-nil (λ (m : Stamped). m.from < 4294967296);
 }
   where
@@ -55,9 +55,9 @@ opens seat n v is few items views h at =
           (all_set (Fits n [] items seat h.owner) views seat (open_of n) mine others)
           (left_fits n [] items seat h.owner (length (set views seat (open_of n))));
       owned = λ s below. has_more (λ u. HasSource u s) (set views seat (open_of n)) (h.owner s) empty_view
-          (subst (HasAt (λ u. HasSource u s) (set views seat (open_of n))) (sym (all_mine s (omega arith)).0) (open_of n, here_set views seat v (open_of n) at, (omega arith, below)));
+          (subst (HasAt (λ u. HasSource u s) (set views seat (open_of n))) (sym (all_mine s (omega (arith, all))).0) (open_of n, here_set views seat v (open_of n) at, (omega arith, below)));
       takes = has_more (λ u. (u.takes ≡ true) × (0 < n → u.lo < u.hi)) (set views seat (open_of n)) seat empty_view
-          (open_of n, here_set views seat v (open_of n) at, refl, λ any. any);
+          (open_of n, here_set views seat v (open_of n) at, (refl, λ any. any));
       history = subst (AreBelow n) (sym no_items) (All-nil (λ (m : Stamped). m.from < n));
     }
   where
@@ -77,7 +77,7 @@ opens seat n v is few items views h at =
     all = sym (old.range (inl may)).0 ∙ ap (λ (u : View). u.sources) is
 
     all_mine : (s : ℕ) → s < h.sources → (h.owner s ≡ seat) × (part s (h.taken ++ items) ≡ [])
-    all_mine s below = let m = old.parts s (omega arith, omega arith) in (m.0, m.1 ∙ ap (λ (u : View). part s u.sent) is)
+    all_mine s below = let m = old.parts s (omega (arith, lo), omega (arith, hi, all)) in (m.0, m.1 ∙ ap (λ (u : View). part s u.sent) is)
 
     no_history : h.taken ++ items ≡ []
     no_history = nothing h.sources (h.taken ++ items) h.history (λ s below. (all_mine s below).1)
@@ -89,7 +89,7 @@ opens seat n v is few items views h at =
     mine = record {
       range = λ used. (refl, omega arith, omega arith);
       right = λ is. (refl, refl);
-      parts = λ s has. ((all_mine s (omega arith)).0, ap (part s) no_items);
+      parts = λ s has. ((all_mine s (omega (arith, all))).0, ap (part s) no_items);
     }
 
     unused : (j : ℕ) (u : View) → j ≢ seat → get_elem? views j ≡ some u → IsInUse u → ⊥

@@ -168,7 +168,7 @@ impl Pass {
         } = other;
         inbox.queue.absorb::<Both>(&mut self.seat, seat);
         self.hi = hi;
-        self.takes = self.takes || takes;
+        self.takes |= takes;
         // What was taken of the other's sources is known by a look.
         inbox.queue.len_as::<Took, _>(rt, &mut self.seat);
     }
