@@ -1,18 +1,16 @@
 -- What each pass keeps, after each step; and what its calls tell.
-use Rattle.std.proofs.Common.{◌≡◌, ℕ, zero, suc, ◌<◌, ◌≤◌, ◌==◌, ◌||◌, Bool, true, false, true≢false, List, [], ◌∷◌, ◌++◌, map, inl, inr, sym, refl, ap, ◌∙◌, subst, append_assoc, append-nil, arith}
+use Rattle.std.proofs.Common.{◌≡◌, ℕ, ◌<◌, ◌≤◌, ◌==◌, ◌||◌, Bool, true, false, true≢false, List, [], ◌∷◌, ◌++◌, map, inl, inr, sym, refl, ap, ◌∙◌, subst, append_assoc, append-nil, arith}
 use Rattle.std.specs.Prelude.{Result, Ok, Err, Option, Some, None, MatchResult, MatchOption, IfNone}
-use Rattle.std.specs.List.{All}
 use Rattle.std.proofs.lemmas.List.Elements.{All-nil, All-push, All-same, All-append, All-weaker, recursion_from_All}
 use Rattle.wt_proto.specs.declared.message.Msg.{Msg}
 use Rattle.wt_proto.specs.declared.message.Stamped.{Stamped}
 use Rattle.discrete_events.specs.Simulation.{Message}
-use Rattle.discrete_events.specs.Merges.{IsMerge}
 use Rattle.discrete_events.proofs.Lists.{all_in, from_map, filter_map}
 use Rattle.inbox.specs.declared.view.View.{View}
-use Rattle.inbox.specs.Views.{part, open_of, deposit_of, take_of, lower_of, upper_of, join_of, HasSource, IsInUse, Begins, IsInOrder, TakesInOrder, HasTakenAll, IsWhole, HasTakenMerge, under_key}
+use Rattle.inbox.specs.Views.{part, open_of, deposit_of, take_of, lower_of, upper_of, join_of, HasSource, IsInUse, Begins, IsInOrder, HasTakenAll, IsWhole, HasTakenMerge, under_key}
 use Rattle.inbox.specs.Rule.{Accounts, KnowsHeld, Deposits, Takes}
 use Rattle.inbox.specs.Passes.{IsPass}
-use Rattle.inbox.proofs.Parts.{AreWithin, AreBelow, part_append, kept_below, below_front, within_below, within_above}
+use Rattle.inbox.proofs.Parts.{part_append, kept_below, below_front, within_below, within_above}
 
 -- ---- an order that is kept
 

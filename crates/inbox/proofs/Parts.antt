@@ -1,10 +1,10 @@
 -- The parts of lists of messages.
-use Rattle.std.proofs.Common.{◌≡◌, ◌≢◌, ℕ, zero, suc, ◌<◌, ◌≤◌, ◌==◌, nat_lt, not, Bool, true, false, true≢false, List, [], ◌∷◌, ◌++◌, if◌then◌else◌, refl, ap, sym, ◌∙◌, append_assoc, append-nil, eq-eqb, ne_eqb, arith}
+use Rattle.std.proofs.Common.{◌≡◌, ◌≢◌, ℕ, ◌<◌, ◌≤◌, ◌==◌, nat_lt, not, Bool, true, false, true≢false, List, [], ◌∷◌, ◌++◌, if◌then◌else◌, refl, ap, sym, ◌∙◌, append_assoc, append-nil, eq-eqb, ne_eqb, arith}
 use Rattle.std.specs.List.{All, filter}
 use Rattle.std.proofs.lemmas.List.Elements.{filter-append, filter_passes, All-nil, All-cons, All-head, All-tail, All-filter}
 use Rattle.std.proofs.lemmas.Bool.Decides.{nat_tests}
 use Rattle.wt_proto.specs.declared.message.Stamped.{Stamped}
-use Rattle.inbox.specs.Views.{part, Begins}
+use Rattle.inbox.specs.Views.{part}
 
 abbrev pub AreWithin : ℕ → ℕ → List Stamped → Type 0
 AreWithin lo hi messages = All (λ (message : Stamped). (lo ≤ message.from) × (message.from < hi)) messages

@@ -1,6 +1,5 @@
 -- Each step of an inbox keeps its rule.
 use Rattle.std.proofs.Common.{◌≡◌, ◌≢◌, ℕ, zero, suc, ◌<◌, ◌≤◌, ◌||◌, Bool, true, false, true≢false, List, [], ◌∷◌, ◌++◌, inl, inr, ⊎_elim, length, set, sym, refl, ap, ◌∙◌, subst, append_assoc, append-nil, arith}
-use Rattle.std.specs.List.{All, filter}
 use Rattle.std.proofs.lemmas.List.Elements.{All-nil, All-push, All-same}
 use mathlib.Core.Option.{some, some-injective, some-ne-none}
 use mathlib.Core.Logic.{dite}
@@ -11,9 +10,9 @@ use Rattle.crossbeam_queue.proofs.Lists.{at_set, set_else}
 use Rattle.wt_proto.specs.declared.message.Stamped.{Stamped}
 use Rattle.inbox.specs.declared.view.View.{View}
 use Rattle.inbox.specs.Views.{part, open_of, empty_view, view_at_first, deposit_of, take_of, lower_of, upper_of, join_of, HasSource, IsInUse}
-use Rattle.inbox.specs.Rule.{HasAt, Fits, Keeps, Accounts, KnowsHeld, Deposits, Takes}
+use Rattle.inbox.specs.Rule.{HasAt, Fits, Keeps, KnowsHeld, Deposits, Takes}
 use Rattle.inbox.specs.Passes.{IsPass}
-use Rattle.inbox.proofs.Parts.{AreBelow, part_append, grown, ungrown, kept_below, kept_above, none_of, nothing, nil_left, nil_right}
+use Rattle.inbox.proofs.Parts.{AreBelow, part_append, grown, ungrown, kept_below, kept_above, none_of, nothing, nil_right}
 use Rattle.inbox.proofs.Seats.{AllSeats, all_set, all_more, one_view, here_set, has_else, has_set, has_more, has_last, renamed, renamed_it, renamed_not, moved, moved_on, moved_low, moved_not}
 
 -- ---- making
