@@ -116,35 +116,58 @@ fn tells(pass: &Pass) -> (u32, u32, bool) {
 }
 
 #[test]
-fn passes_of_an_inbox(rt: HostRuntime) -> Result<(), Fail> {
-    let (inbox, mut pass) = Inbox::open(&rt, rt.alloc(), 5)?;
-    assert!(rt; tells(&pass) == (0, 5, true));
-    assert!(rt; inbox.take(&rt, &mut pass).is_none());
-    inbox.deposit(&rt, &mut pass, message(4, 0))?;
-    let (mut low, high) = pass.split(&rt, &inbox, 2);
-    let (mut mid, mut top) = high.split(&rt, &inbox, 4);
-    assert!(rt; tells(&low) == (0, 2, true));
-    assert!(rt; tells(&mid) == (2, 4, false));
-    assert!(rt; tells(&top) == (4, 5, false));
-    inbox.deposit(&rt, &mut top, message(4, 1))?;
-    inbox.deposit(&rt, &mut mid, message(3, 0))?;
-    assert!(rt; inbox.take(&rt, &mut low) == Some(message(4, 0)));
-    inbox.deposit(&rt, &mut low, message(0, 0))?;
+fn passes_split_and_joined(rt: HostRuntime) -> Result<(), Fail> {
+    let (inbox, pass) = Inbox::open(&rt, rt.alloc(), 5)?;
+    let whole = tells(&pass);
+    let (low, high) = pass.split(&rt, &inbox, 2);
+    let (mid, top) = high.split(&rt, &inbox, 4);
+    let parts = [tells(&low), tells(&mid), tells(&top)];
     let high = mid.join(&rt, top, &inbox);
-    assert!(rt; tells(&high) == (2, 5, false));
-    let mut pass = low.join(&rt, high, &inbox);
-    assert!(rt; tells(&pass) == (0, 5, true));
-    assert!(rt; inbox.take(&rt, &mut pass) == Some(message(4, 1)));
-    assert!(rt; inbox.take(&rt, &mut pass) == Some(message(3, 0)));
-    assert!(rt; inbox.take(&rt, &mut pass) == Some(message(0, 0)));
-    assert!(rt; inbox.take(&rt, &mut pass).is_none());
+    let pass = low.join(&rt, high, &inbox);
+    assert!(rt; whole == (0, 5, true));
+    assert!(rt; parts == [(0, 2, true), (2, 4, false), (4, 5, false)]);
+    assert!(rt; tells(&pass) == whole);
+    Ok(())
+}
+
+/// Takes one message: its source, and its place among those of that source.
+fn take_one(rt: &impl Wait, inbox: &Inbox, pass: Pass) -> (Pass, Option<(u32, u64)>)
+    requires of { pass.of ≡ inbox.now }
+    requires right { pass.view.takes ≡ true }
+    ensures of { result.0.of ≡ pass.of }
+    ensures range { (result.0.view.lo ≡ pass.view.lo) × (result.0.view.hi ≡ pass.view.hi) }
+    ensures right { result.0.view.takes ≡ pass.view.takes }
+{
+    let mut pass = pass;
+    match inbox.take(rt, &mut pass) {
+        Some(message) => (pass, Some((message.from, message.sequence))),
+        None => (pass, None),
+    }
+}
+
+#[test]
+fn a_pass_takes_what_others_put_in(rt: HostRuntime) -> Result<(), Fail> {
+    let (inbox, pass) = Inbox::open(&rt, rt.alloc(), 2)?;
+    let (pass, nothing) = take_one(&rt, &inbox, pass);
+    let (low, high) = pass.split(&rt, &inbox, 1);
+    let (high, two) = put(&rt, &inbox, high, 1, 2);
+    let (low, first) = take_one(&rt, &inbox, low);
+    let (low, one) = put(&rt, &inbox, low, 0, 1);
+    let pass = low.join(&rt, high, &inbox);
+    let (pass, second) = take_one(&rt, &inbox, pass);
+    let (pass, third) = take_one(&rt, &inbox, pass);
+    let (_, fourth) = take_one(&rt, &inbox, pass);
+    assert!(rt; two.is_ok() && one.is_ok());
+    assert!(rt; [nothing, first] == [None, Some((1, 0))]);
+    assert!(rt; [second, third, fourth] == [Some((1, 1)), Some((0, 0)), None]);
     Ok(())
 }
 
 #[test]
 fn an_inbox_of_no_source(rt: HostRuntime) -> Result<(), Fail> {
-    let (inbox, mut pass) = Inbox::open(&rt, rt.alloc(), 0)?;
+    let (inbox, pass) = Inbox::open(&rt, rt.alloc(), 0)?;
+    let (pass, nothing) = take_one(&rt, &inbox, pass);
+    assert!(rt; nothing == None);
     assert!(rt; tells(&pass) == (0, 0, true));
-    assert!(rt; inbox.take(&rt, &mut pass).is_none());
     Ok(())
 }
