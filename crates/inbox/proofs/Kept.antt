@@ -7,10 +7,10 @@ use Rattle.wt_proto.specs.declared.message.Stamped.{Stamped}
 use Rattle.discrete_events.specs.Simulation.{Message}
 use Rattle.discrete_events.proofs.Lists.{all_in, from_map, filter_map}
 use Rattle.inbox.specs.declared.view.View.{View}
-use Rattle.inbox.specs.Views.{part, open_of, deposit_of, take_of, lower_of, upper_of, join_of, HasSource, IsInUse, Begins, IsInOrder, HasTakenAll, IsWhole, HasTakenMerge, under_key}
+use Rattle.inbox.specs.Views.{part, open_of, deposit_of, take_of, lower_of, upper_of, join_of, HasSource, IsInUse, Begins, IsInOrder, HasTakenAll, HasListsOf, IsWhole, HasTakenMerge, under_key}
 use Rattle.inbox.specs.Rule.{Accounts, KnowsHeld, Deposits, Takes}
 use Rattle.inbox.specs.Passes.{IsPass}
-use Rattle.inbox.proofs.Parts.{part_append, kept_below, below_front, within_below, within_above}
+use Rattle.inbox.proofs.Parts.{part_append, kept_below, kept_above, none_of, below_front, within_below, within_above}
 
 -- ---- an order that is kept
 
@@ -126,6 +126,20 @@ joined_pass lo hi low high may its_may v w items one two next knows = record {
     idle true c p q e = absurd (true≢false e)
     idle false true p q e = absurd (true≢false e)
     idle false false p q e = ap (λ (l : List Stamped). l ++ w.taken) (one.idle p) ∙ two.idle q
+
+-- ---- the lists of its sources
+
+pub lower_lists : (mid : ℕ) (v : View) → HasListsOf (lower_of mid v) v
+lower_lists mid v s has = kept_below mid s v.sent has.1
+
+pub upper_lists : (mid : ℕ) (v : View) → HasListsOf (upper_of mid v) v
+upper_lists mid v s has = kept_above mid s v.sent has.0
+
+pub joined_lists : (lo hi low high : ℕ) (may its_may : Bool) (v w : View) → IsPass lo hi may v → IsPass low high its_may w → v.hi ≡ w.lo → HasListsOf v (join_of v w) × HasListsOf w (join_of v w)
+joined_lists lo hi low high may its_may v w one two next = (
+  λ s has. sym (part_append s v.sent w.sent ∙ ap (λ (l : List Stamped). part s v.sent ++ l) (none_of s w.lo w.hi w.sent two.within (λ n p q is. omega arith)) ∙ append-nil (part s v.sent)),
+  λ s has. sym (part_append s v.sent w.sent ∙ ap (λ (l : List Stamped). l ++ part s w.sent) (none_of s v.lo v.hi v.sent one.within (λ n p q is. omega arith))),
+)
 
 -- ---- what the queue's calls tell of it
 

@@ -1,4 +1,4 @@
 pub mod Parts
 pub mod Seats
-pub mod Steps
 pub mod Kept
+pub mod Steps

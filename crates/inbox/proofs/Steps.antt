@@ -9,10 +9,11 @@ use Rattle.crossbeam_queue.specs.Fifo.{Pushes, Pops, Forks, Merges, Learns}
 use Rattle.crossbeam_queue.proofs.Lists.{at_set, set_else}
 use Rattle.wt_proto.specs.declared.message.Stamped.{Stamped}
 use Rattle.inbox.specs.declared.view.View.{View}
-use Rattle.inbox.specs.Views.{part, open_of, empty_view, view_at_first, deposit_of, take_of, lower_of, upper_of, join_of, HasSource, IsInUse}
+use Rattle.inbox.specs.Views.{part, open_of, empty_view, view_at_first, deposit_of, take_of, lower_of, upper_of, join_of, HasSource, HasListsOf, IsInUse}
 use Rattle.inbox.specs.Rule.{HasAt, Fits, Keeps, KnowsHeld, Deposits, Takes}
 use Rattle.inbox.specs.Passes.{IsPass}
-use Rattle.inbox.proofs.Parts.{AreBelow, part_append, grown, ungrown, kept_below, kept_above, none_of, nothing, nil_right}
+use Rattle.inbox.proofs.Parts.{AreBelow, grown, ungrown, kept_below, kept_above, nothing, nil_right}
+use Rattle.inbox.proofs.Kept.{joined_lists}
 use Rattle.inbox.proofs.Seats.{AllSeats, all_set, all_more, one_view, here_set, has_else, has_set, has_more, has_last, renamed, renamed_it, renamed_not, moved, moved_on, moved_low, moved_not}
 
 -- ---- making
@@ -328,6 +329,9 @@ module _ (seat : ℕ) (v : View) (other : ℕ) (w : View) (lo hi low high : ℕ)
       their_range : (w.sources ≡ h.sources) × (w.lo ≤ w.hi) × (w.hi ≤ h.sources)
       their_range = theirs.range two.in_use
 
+      lists : HasListsOf v (join_of v w) × HasListsOf w (join_of v w)
+      lists = joined_lists lo hi low high may its_may v w one two next
+
       right : (b c : Bool) → v.takes ≡ b → w.takes ≡ c → (b || c) ≡ true → (seat ≡ renamed other seat h.taker) × (v.taken ++ w.taken ≡ h.taken)
       right true true p q e = absurd (apart ((theirs.right q).0 ∙ sym (mine.right p).0))
       right true false p q e = let r = mine.right p in (
@@ -344,11 +348,11 @@ module _ (seat : ℕ) (v : View) (other : ℕ) (w : View) (lo hi low high : ℕ)
       parts s has = dite (dec_le (suc s) w.lo)
           (λ (less : suc s ≤ w.lo). let m = mine.parts s (has.0, omega arith) in (
             renamed_not other seat (h.owner s) (λ is. apart (sym is ∙ m.0)) ∙ m.0,
-            m.1 ∙ sym (part_append s v.sent w.sent ∙ ap (λ (l : List Stamped). part s v.sent ++ l) (none_of s w.lo w.hi w.sent two.within (λ n p q is. omega arith)) ∙ append-nil (part s v.sent)),
+            m.1 ∙ lists.0 s (has.0, omega arith),
           ))
           (λ (more : ¬ (suc s ≤ w.lo)). let m = theirs.parts s (omega arith, has.1) in (
             renamed_it other seat (h.owner s) m.0,
-            m.1 ∙ sym (part_append s v.sent w.sent ∙ ap (λ (l : List Stamped). l ++ part s w.sent) (none_of s v.lo v.hi v.sent one.within (λ n p q is. omega arith))),
+            m.1 ∙ lists.1 s (omega arith, has.1),
           ))
 
       Now : ℕ → View → Type 0

@@ -77,6 +77,10 @@ TakesInOrder v = v.takes ≡ true → IsInOrder v
 abbrev pub HasTakenAll : View → Type 0
 HasTakenAll v = (source : ℕ) → HasSource v source → part source v.taken ≡ part source v.sent
 
+-- of each source of the first view's range, both views have the same list of what was put in
+abbrev pub HasListsOf : View → View → Type 0
+HasListsOf v w = (source : ℕ) → HasSource v source → part source v.sent ≡ part source w.sent
+
 -- the range is all sources
 abbrev pub IsWhole : View → Type 0
 IsWhole v = (v.lo ≡ 0) × (v.hi ≡ v.sources)

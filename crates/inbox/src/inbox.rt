@@ -1,5 +1,5 @@
 ghost use Rattle.std.specs.Prelude.{◌≡◌, ◌<◌, true, IfErr, IfNone, IfOk, IfSome, OnOk};
-ghost use Rattle.inbox.specs.Views.{HasSource, HasTakenAll, HasTakenMerge, IsWhole, TakesInOrder, deposit_of, join_of, lower_of, open_of, take_of, upper_of};
+ghost use Rattle.inbox.specs.Views.{HasListsOf, HasSource, HasTakenAll, HasTakenMerge, IsWhole, TakesInOrder, deposit_of, join_of, lower_of, open_of, take_of, upper_of};
 
 use crate::view::{Both, Cut, Deposited, Opening, PerSource, Place, Took, View};
 use crossbeam_queue::{RuledSegQueue, SegPass};
@@ -123,6 +123,7 @@ impl Pass {
         requires inside { (self.view.lo < mid) × (mid < self.view.hi) }
         ensures lower { result.0 ≡ record self { view = lower_of mid self.view } }
         ensures upper { result.1 ≡ record self { view = upper_of mid self.view } }
+        ensures lists { HasListsOf result.0.view self.view × HasListsOf result.1.view self.view }
         ensures order { TakesInOrder result.0.view }
     {
         let mut lower = self;
@@ -136,6 +137,7 @@ impl Pass {
         requires inside { (self.old.view.lo < mid) × (mid < self.old.view.hi) }
         ensures lower { self.new ≡ record (self.old) { view = lower_of mid self.old.view } }
         ensures upper { result ≡ record (self.old) { view = upper_of mid self.old.view } }
+        ensures lists { HasListsOf self.new.view self.old.view × HasListsOf result.view self.old.view }
         ensures order { TakesInOrder self.new.view }
     {
         cut::<Brand>(self, inbox, mid)
@@ -146,6 +148,7 @@ impl Pass {
         requires of { (self.of ≡ inbox.now) × (other.of ≡ inbox.now) }
         requires next { self.view.hi ≡ other.view.lo }
         ensures both { result ≡ record self { view = join_of self.view other.view } }
+        ensures lists { HasListsOf self.view result.view × HasListsOf other.view result.view }
         ensures order { TakesInOrder result.view }
     {
         let mut both = self;
@@ -158,6 +161,7 @@ impl Pass {
         requires of { (self.old.of ≡ inbox.now) × (other.of ≡ inbox.now) }
         requires next { self.old.view.hi ≡ other.view.lo }
         ensures both { self.new ≡ record (self.old) { view = join_of self.old.view other.view } }
+        ensures lists { HasListsOf self.old.view self.new.view × HasListsOf other.view self.new.view }
         ensures order { TakesInOrder self.new.view }
     {
         let Pass {
@@ -198,6 +202,7 @@ fn cut<J: Place>(pass: &mut Pass, inbox: &Inbox, mid: u32) -> Pass
     requires inside { (pass.old.view.lo < mid) × (mid < pass.old.view.hi) }
     ensures lower { pass.new ≡ record (pass.old) { view = lower_of mid pass.old.view } }
     ensures upper { result ≡ record (pass.old) { view = upper_of mid pass.old.view } }
+    ensures lists { HasListsOf pass.new.view pass.old.view × HasListsOf result.view pass.old.view }
     ensures order { TakesInOrder pass.new.view }
 {
     let seat = inbox.queue.another::<Cut<J>>(&mut pass.seat);

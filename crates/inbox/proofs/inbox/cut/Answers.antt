@@ -1,8 +1,9 @@
 use Rattle.std.proofs.Common.{ap, sym, ◌∙◌, subst, arith}
-use Rattle.inbox.specs.Views.{lower_of, upper_of}
+use Rattle.inbox.specs.declared.view.View.{View}
+use Rattle.inbox.specs.Views.{lower_of, upper_of, HasListsOf}
 use Rattle.inbox.specs.Passes.{PassModel, IsPass}
 use Rattle.inbox.proofs.Steps.{cuts}
-use Rattle.inbox.proofs.Kept.{lower_pass, upper_pass}
+use Rattle.inbox.proofs.Kept.{lower_pass, upper_pass, lower_lists, upper_lists}
 use Rattle.inbox.proofs.inbox.cut.Goals as goal
 
 pub another-seat-requires-clause-rule : goal.another-seat-requires-clause-rule
@@ -44,3 +45,13 @@ returns-clause-order g c =
     (subst (IsPass c.pass.inside.lo c.args.mid c.pass.inside.takes)
     (ap (λ n. lower_of n c.pass.inside.seat.me.view.client) c.requires.place ∙ sym c.another-seat.ensures.rule.0)
     (lower_pass c.pass.inside.lo c.pass.inside.hi c.args.mid c.pass.inside.takes c.pass.inside.seat.me.view.client c.pass.invariant.2 (omega arith) (omega arith))).order
+
+pub returns-clause-lists : goal.returns-clause-lists
+returns-clause-lists g c =
+    let v = c.pass.inside.seat.me.view.client in
+    let is = ap (λ (m : PassModel). m.view) c.pass.view_is in
+    let lower = ap (λ n. lower_of n v) c.requires.place ∙ sym c.another-seat.ensures.rule.0 in
+    let upper = ap (λ n. upper_of n v) c.requires.place ∙ sym c.another-seat.ensures.rule.1 in (
+      subst (λ (y : View × View). HasListsOf y.0 y.1) (λ i. (lower i, is i)) (lower_lists c.args.mid v),
+      subst (λ (y : View × View). HasListsOf y.0 y.1) (λ i. (upper i, is i)) (upper_lists c.args.mid v),
+    )
