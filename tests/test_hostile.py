@@ -9,6 +9,7 @@ import unittest
 from support import tool, write
 
 import check_hostile
+import wwt_hostile
 import check_memory
 from check_memory import LINE, Ran
 from worked_rows import row
@@ -25,10 +26,10 @@ class HostileTest(unittest.TestCase):
     def room(self, body):
         write(self.wwt, f"#!{sys.executable}\nimport os, signal, sys, time\n{body}\n")
         os.chmod(self.wwt, 0o755)
-        return check_hostile.Room(self.wwt, self.folder)
+        return wwt_hostile.Room(self.wwt, self.folder)
 
     def differs(self, body, part, *expected, **how):
-        with self.assertRaises(check_hostile.Differs) as told:
+        with self.assertRaises(wwt_hostile.Differs) as told:
             self.room(body).expect(*expected, **how)
         self.assertIn(part, str(told.exception))
 
