@@ -1,4 +1,6 @@
-"""Hostile cases of tools/check_hostile.py: words and names, standard input, and input that doesn't end, or not in time."""
+"""Hostile cases of tools/check_hostile.py: words and names, standard input, and input that doesn't end,
+or not in time.
+"""
 import contextlib
 import os
 import pty

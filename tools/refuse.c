@@ -39,7 +39,9 @@ __attribute__((constructor)) static void begin(void)
     threads = what != NULL && strcmp(what, "threads") == 0;
     if (file != NULL) {
         int at_file = open(file, O_RDWR | O_CLOEXEC);
-        void *shared = at_file < 0 ? MAP_FAILED : mmap(NULL, sizeof *count, PROT_READ | PROT_WRITE, MAP_SHARED, at_file, 0);
+        void *shared = MAP_FAILED;
+        if (at_file >= 0)
+            shared = mmap(NULL, sizeof *count, PROT_READ | PROT_WRITE, MAP_SHARED, at_file, 0);
         if (shared == MAP_FAILED)
             _exit(125);
         close(at_file);
@@ -101,10 +103,9 @@ int posix_memalign(void **at, size_t alignment, size_t size)
 
 int pthread_create(pthread_t *thread, const pthread_attr_t *how, void *(*body)(void *), void *with)
 {
-    static int (*real)(pthread_t *, const pthread_attr_t *, void *(*)(void *), void *);
+    typedef int create(pthread_t *, const pthread_attr_t *, void *(*)(void *), void *);
     if (is_refused(1))
         return EAGAIN;
-    if (real == NULL)
-        real = (int (*)(pthread_t *, const pthread_attr_t *, void *(*)(void *), void *))dlsym(RTLD_NEXT, "pthread_create");
+    create *real = (create *)dlsym(RTLD_NEXT, "pthread_create");
     return real(thread, how, body, with);
 }

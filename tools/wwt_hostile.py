@@ -1,5 +1,5 @@
-"""What the hostile cases of tools/check_hostile.py share: a room in which the program is run, with limits, and compared;
-and the files that they make.
+"""What the hostile cases of tools/check_hostile.py share: a room in which the program is run, with
+limits, and compared; and the files that they make.
 """
 import collections
 import json
