@@ -54,8 +54,10 @@ fn run_file<R: Files + Print + AllocGlobal + Threads + Wait + Sync>(
     let group: Group = serde_json::from_str(alloc, &text)?;
     ensure!(!group.rows.is_empty(), "no rows");
     for row in &group.rows {
-        let difference = play(rt, &group.files, row, &mut sum.runs)
-            .context(format_args!("{}", row.name))?;
+        let difference = play(rt, &group.files, row, &mut sum.runs).context(format_args!(
+            "{}",
+            row.name
+        ))?;
         sum.count(difference.is_some());
         if let Some(difference) = difference {
             println!(rt; "{}: {difference}", row.name)?;

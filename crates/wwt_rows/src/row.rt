@@ -62,7 +62,9 @@ impl Cuts {
     /// The file's bytes that are left where it is cut to this length.
     pub fn bytes(&self, alloc: Global, row: &Row, length: u64) -> Result<Vec<u8>> {
         let content = row.files.get(&self.file);
-        let mut bytes = content.context("no such file is there to be cut")?.bytes(alloc)?;
+        let mut bytes = content
+            .context("no such file is there to be cut")?
+            .bytes(alloc)?;
         ensure!(length < bytes.len() as u64, "no byte is cut off");
         bytes.truncate(length as usize);
         Ok(bytes)

@@ -22,6 +22,10 @@ impl Sum {
 
 impl Display for Sum {
     fn fmt<W: Write>(&self, f: &mut Formatter<W>) -> fmt::Result {
-        write!(f, "{} rows in {} runs, {} differ", self.rows, self.runs, self.differ)
+        write!(
+            f,
+            "{} rows in {} runs, {} differ",
+            self.rows, self.runs, self.differ
+        )
     }
 }
