@@ -21,7 +21,11 @@ pub fn test_laying(machine: &Machine, loaded: &Loaded) -> Result<(), NoMemory> {
 /// which it has to be known whether the segment lies in it.
 fn steps(machine: &Machine, loaded: &Loaded) -> u64 {
     let images = loaded.images();
-    let served = if images.len() == 1 { machine.nodes() } else { 1 };
+    let served = if images.len() == 1 {
+        machine.nodes()
+    } else {
+        1
+    };
     let mut sum = 0u64;
     for image in images {
         for segment in image.segments.get() {
