@@ -1,5 +1,5 @@
 //! What a command came to beside what is wanted of it.
-use crate::row::{Output, Wanted};
+use crate::wanted::{Output, Want};
 use anyhow::Result;
 use std::alloc::Global;
 
@@ -14,27 +14,27 @@ pub struct Ran<'a> {
 }
 
 /// The first difference of what a command came to, as a text for people. None if there is none.
-pub fn difference(alloc: Global, ran: Ran<'_>, wanted: &Wanted) -> Result<Option<String>> {
+pub fn difference(alloc: Global, ran: Ran<'_>, wanted: &Want<'_>) -> Result<Option<String>> {
     if ran.status != wanted.status {
         let text = format!(in alloc; "the status is {}, wanted {}", ran.status, wanted.status)?;
         return Ok(Some(text));
     }
-    let error = match &wanted.error {
-        Some(line) => of_whole(alloc, "error", ran.err, &[line.as_str(), ""])?,
-        None => of_whole(alloc, "error", ran.err, &[""])?,
-    };
-    if error.is_some() {
-        return Ok(error);
+    let mut error = Vec::new(alloc);
+    if let Some(line) = wanted.error {
+        error.push(line.as_bytes())?;
     }
-    match wanted.output()? {
-        Output::Whole(lines, cut) => {
+    error.push(b"".as_slice())?;
+    let difference = of_whole(alloc, "error", ran.err, &error)?;
+    if difference.is_some() {
+        return Ok(difference);
+    }
+    match wanted.output {
+        Output::Whole(lines, rest) => {
             let mut parts = Vec::new(alloc);
             for line in lines {
-                parts.push(line.as_str())?;
+                parts.push(line.as_bytes())?;
             }
-            if !cut {
-                parts.push("")?;
-            }
+            parts.push(rest)?;
             of_whole(alloc, "output", ran.out, &parts)
         }
         Output::Some(lines) => of_some(alloc, ran.out, lines),
@@ -42,13 +42,13 @@ pub fn difference(alloc: Global, ran: Ran<'_>, wanted: &Wanted) -> Result<Option
 }
 
 /// The first part between newlines of a text that isn't the wanted one.
-fn of_whole(alloc: Global, of: &str, text: &[u8], wanted: &[&str]) -> Result<Option<String>> {
+fn of_whole(alloc: Global, of: &str, text: &[u8], wanted: &[&[u8]]) -> Result<Option<String>> {
     let mut wanted = wanted.iter().copied();
     let mut number = 0u64;
     for part in text.split(|byte| *byte == b'\n') {
         number = number.saturating_add(1);
         let next = wanted.next();
-        if next.map(str::as_bytes) != Some(part) {
+        if next != Some(part) {
             return Ok(Some(told(alloc, of, number, Some(part), next)?));
         }
     }
@@ -64,16 +64,19 @@ fn told(
     of: &str,
     number: u64,
     line: Option<&[u8]>,
-    wanted: Option<&str>,
+    wanted: Option<&[u8]>,
 ) -> Result<String> {
-    let line = match line {
-        Some(bytes) => String::from_utf8_lossy(alloc, bytes)?,
-        None => String::from_str(alloc, "missing")?,
-    };
-    Ok(format!(in alloc;
-        "line {number} of the {of} is {line}, wanted {}",
-        wanted.unwrap_or("none")
-    )?)
+    let line = text_of(alloc, line, "missing")?;
+    let wanted = text_of(alloc, wanted, "none")?;
+    Ok(format!(in alloc; "line {number} of the {of} is {line}, wanted {wanted}")?)
+}
+
+/// A line as a text, or this word where there is none.
+fn text_of(alloc: Global, line: Option<&[u8]>, none: &str) -> Result<String> {
+    match line {
+        Some(bytes) => Ok(String::from_utf8_lossy(alloc, bytes)?),
+        None => Ok(String::from_str(alloc, none)?),
+    }
 }
 
 /// The first of these lines that the text doesn't have after the ones before it.

@@ -2,12 +2,14 @@
 //! prints the rows that differ from what they want. The status is 1 where one differs, and 2 where the files are bad.
 #![tactic(auto)]
 
+mod change;
 mod compare;
 mod play;
 mod row;
 mod sum;
 #[cfg(test)]
 mod tests;
+mod wanted;
 
 use anyhow::{Context, Result, ensure};
 use play::play;
@@ -52,7 +54,10 @@ fn run_file<R: Files + Print + AllocGlobal + Threads + Wait + Sync>(
     let group: Group = serde_json::from_str(alloc, &text)?;
     ensure!(!group.rows.is_empty(), "no rows");
     for row in &group.rows {
-        let difference = play(rt, &group.files, row).context(format_args!("{}", row.name))?;
+        let difference = play(rt, &group.files, row, &mut sum.runs).context(format_args!(
+            "{}",
+            row.name
+        ))?;
         sum.count(difference.is_some());
         if let Some(difference) = difference {
             println!(rt; "{}: {difference}", row.name)?;

@@ -3,6 +3,7 @@ ghost use Rattle.std.specs.Prelude.{◌≡◌, OnOk, false};
 ghost use Rattle.wt_outside.specs.MemFiles.{AreNamedApart};
 ghost use Rattle.wwt_rows.specs.Names.{IsNew};
 
+use crate::change::{Change, changes};
 use crate::compare::{Ran, difference};
 use crate::row::{Content, Row};
 use anyhow::{Context, Result};
@@ -22,16 +23,33 @@ const ERROR_ROOM: u64 = 1 << 12;
 /// How many workers run a machine again that a row runs by one.
 const WORKERS: [&str; 3] = ["2", "3", "16"];
 
-/// Runs a row over these files and its own, and again by several workers where it runs a machine. The first difference
-/// to what it wants, if there is one.
+/// Runs a row over these files and its own, with each of its changes. Counts the runs. The first difference to what it
+/// wants, if there is one.
 pub fn play<R: AllocGlobal + Threads + Wait + Sync>(
     rt: &R,
     shared: &BTreeMap<String, Content>,
     row: &Row,
+    runs: &mut u64,
 ) -> Result<Option<String>> {
-    // A row that wants nothing is refused before it is run.
-    row.wanted.output()?;
-    let difference = play_words(rt, shared, row, &row.words)?;
+    for change in &changes(rt.alloc(), row)? {
+        let difference = play_changed(rt, shared, row, change, runs)?;
+        if let Some(difference) = difference {
+            return Ok(Some(format!(in rt.alloc(); "{change}{difference}")?));
+        }
+    }
+    Ok(None)
+}
+
+/// Runs a row with a change, and again by several workers where it runs a machine. The first difference to what it
+/// wants, if there is one.
+fn play_changed<R: AllocGlobal + Threads + Wait + Sync>(
+    rt: &R,
+    shared: &BTreeMap<String, Content>,
+    row: &Row,
+    change: &Change,
+    runs: &mut u64,
+) -> Result<Option<String>> {
+    let difference = play_words(rt, shared, row, change, &row.words, runs)?;
     if difference.is_some() {
         return Ok(difference);
     }
@@ -40,7 +58,7 @@ pub fn play<R: AllocGlobal + Threads + Wait + Sync>(
     };
     for workers in WORKERS {
         let words = by_workers(rt.alloc(), &row.words, rest, workers)?;
-        let difference = play_words(rt, shared, row, &words)?;
+        let difference = play_words(rt, shared, row, change, &words, runs)?;
         if let Some(difference) = difference {
             return Ok(Some(format!(in rt.alloc(); "by {workers} workers: {difference}")?));
         }
@@ -80,35 +98,68 @@ fn by_workers(
     Ok(all)
 }
 
-/// Runs these words over the files and with the faults of a row.
+/// Runs these words over the files and with the faults of a row, and with a change. Counts the run.
 fn play_words<R: AllocGlobal + Threads + Wait + Sync>(
     rt: &R,
     shared: &BTreeMap<String, Content>,
     row: &Row,
+    change: &Change,
     words: &[String],
+    runs: &mut u64,
 ) -> Result<Option<String>> {
     let alloc = rt.alloc();
+    let wanted = change.wanted(row)?;
     let mut files = Vec::new(alloc);
+    add_cut(alloc, &mut files, row, change.length)?;
     add_all(alloc, &mut files, &row.files)?;
     add_all(alloc, &mut files, shared)?;
     let mut store = MemStore::new(alloc, files, row.failing_reads.clone()?);
-    let mut out = sink(alloc, OUTPUT_ROOM, &row.failing_writes, row.kept)?;
-    let mut err = sink(alloc, ERROR_ROOM, &row.failing_error_writes, 0)?;
+    let mut out = output(alloc, row, change)?;
+    let mut err = error_sink(alloc, row, change)?;
     let mut ran = None;
     let status = wwt(
         rt, alloc, words, &mut store, &mut out, &mut err, &OpenGate, &mut ran,
     );
+    *runs = runs.saturating_add(1);
     let ran = Ran {
         status: status.code(),
         out: out.bytes(),
         err: err.bytes(),
     };
-    difference(alloc, ran, &row.wanted)
+    difference(alloc, ran, &wanted)
 }
 
-/// A sink with so much room, whose writes of these numbers fail.
-fn sink(alloc: Global, room: u64, failing: &Vec<u64>, kept: u64) -> Result<MemSink> {
-    MemSink::new(alloc, room, failing.clone()?, kept).context("no memory for a sink")
+/// The output of a row with a change.
+fn output(alloc: Global, row: &Row, change: &Change) -> Result<MemSink> {
+    let mut failing = row.failing_writes.clone()?;
+    if let Some(number) = change.failed_write {
+        failing.push(number)?;
+    }
+    MemSink::new(alloc, OUTPUT_ROOM, failing, row.kept).context("no memory for the output")
+}
+
+/// The error sink of a row with a change. One that is to take nothing has no room.
+fn error_sink(alloc: Global, row: &Row, change: &Change) -> Result<MemSink> {
+    let room = if change.silent { 0 } else { ERROR_ROOM };
+    let failing = row.failing_error_writes.clone()?;
+    MemSink::new(alloc, room, failing, 0).context("no memory for the error sink")
+}
+
+/// Adds the file that is cut to this length, if one is.
+fn add_cut(
+    alloc: Global,
+    files: &mut Vec<(String, Vec<u8>)>,
+    row: &Row,
+    length: Option<u64>,
+) -> Result<()>
+    requires { AreNamedApart files.old.items }
+    ensures { OnOk result (AreNamedApart files.new.items) }
+{
+    if let (Some(cuts), Some(length)) = (&row.cuts, length) {
+        let bytes = cuts.bytes(alloc, row, length)?;
+        add(files, cuts.file.clone()?, bytes)?;
+    }
+    Ok(())
 }
 
 /// Adds the files whose names aren't there yet.

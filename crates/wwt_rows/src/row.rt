@@ -1,5 +1,6 @@
 //! What a file of rows says.
-use anyhow::{Context, Result, bail, ensure};
+use crate::wanted::Wanted;
+use anyhow::{Context, Result, ensure};
 use serde::Deserialize;
 use serde_json::Value;
 use std::alloc::Global;
@@ -34,10 +35,40 @@ pub struct Row {
     /// How many bytes are kept of a write that fails.
     #[serde(default)]
     pub kept: u64,
+    /// Whether it is run again with each of its writes failing in turn. What is wanted then follows from the lines of
+    /// its output: one write is one line.
+    #[serde(default)]
+    pub each_write_fails: bool,
+    /// The lengths of a file of its own that is cut short. It is run once for each of them.
+    pub cuts: Option<Cuts>,
     /// The numbers of the writes to the error sink that fail, from 0.
     #[serde(default)]
     pub failing_error_writes: Vec<u64>,
     pub wanted: Wanted,
+}
+
+/// Lengths of a file that is cut short.
+#[derive(Drop, Deserialize)]
+#[serde(deny_unknown_fields)]
+pub struct Cuts {
+    pub file: String,
+    /// The shortest of them.
+    pub from: u64,
+    /// Each of them is below this one.
+    pub below: u64,
+}
+
+impl Cuts {
+    /// The file's bytes that are left where it is cut to this length.
+    pub fn bytes(&self, alloc: Global, row: &Row, length: u64) -> Result<Vec<u8>> {
+        let content = row.files.get(&self.file);
+        let mut bytes = content
+            .context("no such file is there to be cut")?
+            .bytes(alloc)?;
+        ensure!(length < bytes.len() as u64, "no byte is cut off");
+        bytes.truncate(length as usize);
+        Ok(bytes)
+    }
 }
 
 /// The bytes of a file.
@@ -65,51 +96,6 @@ impl Content {
                 Ok(vec![in alloc; 0; count]?)
             }
             Content::Json(value) => Ok(value.to_string(alloc)?.as_bytes().to_vec(alloc)?),
-        }
-    }
-}
-
-/// What is wanted of a command.
-#[derive(Drop, Deserialize)]
-#[serde(deny_unknown_fields)]
-pub struct Wanted {
-    /// The exit status of the program.
-    pub status: u8,
-    /// The lines of the whole output. It ends as the last of them does.
-    pub output: Option<Vec<String>>,
-    /// Whether the output ends within its last line, as no newline follows it.
-    #[serde(default)]
-    pub cut: bool,
-    /// Some lines of the output, in their order.
-    pub lines: Option<Vec<String>>,
-    /// The line of the error sink. No such line where this is left out.
-    pub error: Option<String>,
-}
-
-/// What is wanted of the output.
-#[derive(Clone, Copy)]
-pub enum Output<'a> {
-    /// Exactly these lines; whether the last of them is cut short.
-    Whole(&'a [String], bool),
-    /// These lines among others, in this order.
-    Some(&'a [String]),
-}
-
-impl Wanted {
-    /// What is wanted of the output. Refuses a row that doesn't say it, or says it twice.
-    pub fn output(&self) -> Result<Output<'_>> {
-        match (&self.output, &self.lines) {
-            (Some(lines), None) => {
-                ensure!(!self.cut || !lines.is_empty(), "nothing is there to be cut");
-                Ok(Output::Whole(lines, self.cut))
-            }
-            (None, Some(lines)) => {
-                ensure!(!lines.is_empty(), "no line is wanted");
-                ensure!(!self.cut, "only a whole output can be cut");
-                Ok(Output::Some(lines))
-            }
-            (None, None) => bail!("no output is wanted"),
-            (Some(_), Some(_)) => bail!("the output is wanted whole and in part"),
         }
     }
 }

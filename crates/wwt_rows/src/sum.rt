@@ -1,10 +1,12 @@
-//! How many rows were run, and how many of them differ.
+//! How many rows were run, how often, and how many of them differ.
 use std::fmt::{self, Display, Formatter, Write};
 
 /// Counts of rows.
 #[derive(Clone, Copy, Default)]
 pub struct Sum {
     pub rows: u64,
+    /// How many commands were run for them.
+    pub runs: u64,
     pub differ: u64,
 }
 
@@ -20,6 +22,10 @@ impl Sum {
 
 impl Display for Sum {
     fn fmt<W: Write>(&self, f: &mut Formatter<W>) -> fmt::Result {
-        write!(f, "{} rows, {} differ", self.rows, self.differ)
+        write!(
+            f,
+            "{} rows in {} runs, {} differ",
+            self.rows, self.runs, self.differ
+        )
     }
 }

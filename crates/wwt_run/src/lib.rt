@@ -1,6 +1,7 @@
 //! The simulation of a whole machine, its report, and the top call of the program.
 #![tactic(auto)]
 
+mod laying;
 mod perform;
 mod refuse;
 mod run;

@@ -3,6 +3,7 @@ ghost use Rattle.image_loader.specs.Images.{IsFor};
 ghost use Rattle.wwt_case.specs.Case.{AreWorkers};
 ghost use Rattle.wwt_run.specs.Jobs.{IsAtEnd, IsAtEndByThreads};
 
+use crate::laying::test_laying;
 use engine::Engine;
 use gate::Gate;
 use image_loader::Loaded;
@@ -23,6 +24,7 @@ pub fn simulate(
 {
     // Images that are kept can be loaded, so the start is a world.
     let _images = loaded.images();
+    test_laying(machine, loaded)?;
     let mut engine = Engine::new(alloc, *machine, loaded, traced)?;
     engine.run_plain()?;
     Ok(engine)
@@ -43,6 +45,7 @@ pub fn simulate_by_workers<R: Threads + Wait + Sync, G: Gate + Sync>(
     ensures { IfOk result (IsAtEndByThreads machine.now loaded.now traced) }
 {
     let _images = loaded.images();
+    test_laying(machine, loaded)?;
     let mut engine = Engine::new(alloc, *machine, loaded, traced)?;
     engine.run(rt, workers, gate)?;
     Ok(engine)

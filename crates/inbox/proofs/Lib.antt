@@ -1,0 +1,4 @@
+pub mod Parts
+pub mod Seats
+pub mod Kept
+pub mod Steps
