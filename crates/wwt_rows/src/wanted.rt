@@ -91,7 +91,7 @@ impl Wanted {
     }
 
     /// What is wanted of the output. Refuses a row that doesn't say it, or says it twice.
-    fn output(&self) -> Result<Output<'_>> {
+    pub fn output(&self) -> Result<Output<'_>> {
         match (&self.output, &self.lines) {
             (Some(lines), None) => match (self.cut, lines.split_last()) {
                 (false, _) => Ok(Output::Whole(lines, b"")),
