@@ -30,15 +30,20 @@ pub fn difference(alloc: Global, ran: Ran<'_>, wanted: &Want<'_>) -> Result<Opti
     }
     match wanted.output {
         Output::Whole(lines, rest) => {
-            let mut parts = Vec::new(alloc);
-            for line in lines {
-                parts.push(line.as_bytes())?;
-            }
-            parts.push(rest)?;
-            of_whole(alloc, "output", ran.out, &parts)
+            of_whole(alloc, "output", ran.out, &parts_of(alloc, lines, rest)?)
         }
         Output::Some(lines) => of_some(alloc, ran.out, lines),
     }
+}
+
+/// These lines, and what follows the last newline.
+fn parts_of<'a>(alloc: Global, lines: &'a [String], rest: &'a [u8]) -> Result<Vec<&'a [u8]>> {
+    let mut parts = Vec::new(alloc);
+    for line in lines {
+        parts.push(line.as_bytes())?;
+    }
+    parts.push(rest)?;
+    Ok(parts)
 }
 
 /// The first part between newlines of a text that isn't the wanted one.
