@@ -211,7 +211,7 @@ module _ (engine : EngineModel) (running : IsRunning engine) (key : Key) (event 
     is_world = from_world sim (IsNode engine.machine) (Fits engine.machine) (laws engine running) (world_of engine) after running.world
         (round_is_serial sim (IsNode engine.machine) (Fits engine.machine) (laws engine running) (wind engine running).quanta (world_of engine) key event running.world running.between is).serial
 
-    pub world_is : world_of (record { machine = engine.machine; threaded = engine.threaded; stations = stations; kept_end = end; quanta = engine.quanta + 1; broken = false }) ≡ after
+    pub world_is : world_of (record { machine = engine.machine; threaded = engine.threaded; passes = engine.passes; stations = stations; kept_end = end; quanta = engine.quanta + 1; broken = false }) ≡ after
     world_is =
         (λ i. record {
           nodes = (sym (map_map (λ (t : Station NodeState Msg). t.node) station_of stations) ∙ ap (map (λ (t : Station NodeState Msg). t.node)) stations_are) i;

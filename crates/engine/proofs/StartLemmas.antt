@@ -53,7 +53,7 @@ module _ (machine : MachineParts) (loaded : LoadedImages) (traced : Bool) where
 
   module _ (numbers : IsMachine machine) (stations : List StationModel) (all : AreAtStart machine.nodes stations) where
     abbrev engine : EngineModel
-    engine = record { machine = machine; threaded = 0; stations = stations; kept_end = 0; quanta = 0; broken = false }
+    engine = record { machine = machine; threaded = 0; passes = []; stations = stations; kept_end = 0; quanta = 0; broken = false }
 
     nodes_are : nodes_of stations ≡ map (start_node machine loaded traced) (range_with_len 0 machine.nodes)
     nodes_are =
