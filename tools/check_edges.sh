@@ -69,7 +69,7 @@ fi
 
 # an error line that can't be written changes no status
 if [ -w /dev/full ]; then
-    for words in '' 'run' 'run m n' 'run --budget 0 m' 'run --workers 2 m' 'check' 'load' 'load 10000' 'dis' 'flat m' 'fly'; do
+    for words in '' 'run' 'run m n' 'run --budget 0 m' 'run --workers 17 m' 'check' 'load' 'load 10000' 'dis' 'flat m' 'fly'; do
         # (each word for itself)
         "$wwt" $words </dev/null >"$room/out" 2>/dev/full
         echo $? >"$room/status"

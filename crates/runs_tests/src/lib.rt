@@ -1,4 +1,4 @@
-//! Tests of what runs: a node, its station, an engine, the report, and the top call.
+//! Tests of what runs: a node, its station, an inbox, an engine, the report, and the top call.
 #![tactic(auto)]
 
 #[cfg(test)]
@@ -7,6 +7,8 @@ mod engines;
 mod event_rows;
 #[cfg(test)]
 mod events;
+#[cfg(test)]
+mod inboxes;
 #[cfg(test)]
 mod interleavings;
 #[cfg(test)]

@@ -1,0 +1,4 @@
+pub mod Parts
+pub mod Seats
+pub mod Steps
+pub mod Kept
