@@ -23,6 +23,7 @@ use Rattle.quantum.specs.Stations.{StationModel, IsLive, IsUnbroken as IsWholeSt
 use Rattle.quantum.specs.World.{World, start_of}
 use Rattle.quantum.specs.Starts.{IsWorldOf}
 use Rattle.quantum.proofs.AtStart.{start_of_sound}
+use Rattle.inbox.specs.Passes.{PassModel}
 use Rattle.engine.specs.Engine.{EngineModel, IsRunning, IsStationOf, all_pending, nodes_of, world_of}
 
 module _ (machine : MachineParts) (loaded : LoadedImages) (traced : Bool) where
@@ -82,8 +83,8 @@ module _ (machine : MachineParts) (loaded : LoadedImages) (traced : Bool) where
     worlds = subst (λ (w : World). IsWorldOf machine w × IsBetweenQuanta (wind_tunnel machine) w) (sym world_is_start)
         (start_of_sound machine loaded traced numbers (λ node member. sound node (subst (λ ns. IsIn node ns) (sym nodes_are) member)))
 
-    pub running_at_start : IsRunning engine
-    running_at_start = record {
+    pub running_at_start : (passes : List PassModel) → IsRunning (record { machine = machine; threaded = 0; passes = passes; stations = stations; kept_end = 0; quanta = 0; broken = false })
+    running_at_start passes = record {
       numbers = numbers;
       stations = all.each;
       world = worlds.0;

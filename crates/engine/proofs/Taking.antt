@@ -1,7 +1,8 @@
 -- What is taken out of the shared inboxes of a round is a merge for each node, whatever the order in which it was put in.
-use Rattle.std.proofs.Common.{◌≡◌, ◌≢◌, ℕ, zero, suc, ◌+◌, ◌<◌, ◌≤◌, ◌⊎◌, ◌==◌, Bool, true, false, cond, List, [], ◌∷◌, ◌++◌, length, get_or, drop, map, Some, refl, ap, sym, ◌∙◌, subst, inl, inr, arith, append-nil, append_assoc, eqb-true, eq-eqb}
+use Rattle.std.proofs.Common.{◌≡◌, ◌≢◌, ℕ, zero, suc, ◌+◌, ◌<◌, ◌≤◌, ◌⊎◌, ◌==◌, Bool, true, false, cond, List, [], ◌∷◌, ◌++◌, length, get_or, set, drop, map, Some, refl, ap, sym, ◌∙◌, subst, inl, inr, arith, append-nil, append_assoc, eqb-true, eq-eqb}
 use Rattle.std.specs.Prelude.{⊤}
 use Rattle.std.specs.List.{All, filter}
+use Rattle.std.proofs.lemmas.List.{get_or-set_other, get_or-set_same, get_or_default}
 use Rattle.std.proofs.lemmas.List.Elements.{filter-append}
 use Rattle.wt_params.specs.declared.parts.MachineParts.{MachineParts}
 use Rattle.wt_proto.specs.declared.key.Key.{Key}
@@ -49,7 +50,7 @@ first_may (x ∷ ls) more s may = (may.0, first_may ls more (accept_of x s) may.
 -- ---- the part of a source, of messages and under their keys
 
 part_under_keys : (s : ℕ) (ls : List Stamped) → map message_under_key (part s ls) ≡ part_from s (map message_under_key ls)
-part_under_keys s ls = filter_map (λ (m : Message Msg). m.0.from == s) message_under_key ls
+part_under_keys s ls = sym (filter_map (λ (m : Message Msg). m.0.from == s) message_under_key ls)
 
 in_drop : {A : Type 0} (x : A) (n : ℕ) (xs : List A) → IsIn x (drop n xs) → IsIn x xs
 in_drop x zero xs is = is
@@ -62,7 +63,7 @@ drop_first (x ∷ xs) ys = drop_first xs ys
 
 -- What is taken so far is made whole: for each source what is left of it follows.
 module _ (count : ℕ) (taken sent : List Stamped) (first : (source : ℕ) → source < count → (rest : List Stamped) × (part source sent ≡ part source taken ++ rest)) where
-  rest_of : ℕ → List Stamped
+  abbrev pub rest_of : ℕ → List Stamped
   rest_of source = drop (length (part source taken)) (part source sent)
 
   parts : (source : ℕ) → source < count → part source taken ++ rest_of source ≡ part source sent
@@ -81,30 +82,30 @@ module _ (count : ℕ) (taken sent : List Stamped) (first : (source : ℕ) → s
   rest_apart source other apart = filter_none (λ (l : Stamped). l.from == source) (rest_of other) (λ l member. tested l.from source (λ e. apart (sym e ∙ from_source other l member)))
 
   -- what is left of the sources below a number
-  rests : ℕ → List Stamped
+  abbrev pub rests : ℕ → List Stamped
   rests zero = []
   rests (suc n) = rests n ++ rest_of n
 
   rests_from : (n : ℕ) (l : Stamped) → IsIn l (rests n) → l.from < n
   rests_from zero l is = absurd is
-  rests_from (suc n) l is = by (in_append l (rests n) (rest_of n) is)
+  rests_from (suc n) l is = by (rests_from n l) (in_append l (rests n) (rest_of n) is)
     where
-      by : IsIn l (rests n) ⊎ IsIn l (rest_of n) → l.from < suc n
-      by (inl one) = let r = rests_from n l one in omega arith
-      by (inr other) = let r = from_source n l other in omega arith
+      by : (IsIn l (rests n) → l.from < n) → IsIn l (rests n) ⊎ IsIn l (rest_of n) → l.from < suc n
+      by before (inl one) = let r = before one in omega arith
+      by before (inr other) = let r = from_source n l other in omega arith
 
   none_yet : (source n : ℕ) → n ≤ source → part source (rests n) ≡ []
   none_yet source n high = filter_none (λ (l : Stamped). l.from == source) (rests n) (λ l member. tested l.from source (λ e. let r = rests_from n l member in absurd (omega arith)))
 
   part_of_rests : (source n : ℕ) → source < n → part source (rests n) ≡ rest_of source
   part_of_rests source zero low = absurd (omega arith)
-  part_of_rests source (suc n) low = filter-append (λ (l : Stamped). l.from == source) (rests n) (rest_of n) ∙ by (lt_or_le source n)
+  part_of_rests source (suc n) low = filter-append (λ (l : Stamped). l.from == source) (rests n) (rest_of n) ∙ by (part_of_rests source n) (lt_or_le source n)
     where
-      by : (source < n) ⊎ (n ≤ source) → part source (rests n) ++ part source (rest_of n) ≡ rest_of source
-      by (inl less) =
-          (λ i. part_of_rests source n less i ++ rest_apart source n (λ e. absurd (let l = less in omega arith)) i)
+      by : (source < n → part source (rests n) ≡ rest_of source) → (source < n) ⊎ (n ≤ source) → part source (rests n) ++ part source (rest_of n) ≡ rest_of source
+      by before (inl less) =
+          (λ i. before less i ++ rest_apart source n (λ e. absurd (let l = less in omega arith)) i)
           ∙ append-nil (rest_of source)
-      by (inr more) =
+      by before (inr more) =
           let same : n ≡ source = omega arith in
           (λ i. none_yet source n more i ++ part source (rest_of (same i)))
           ∙ rest_alone source
@@ -169,6 +170,9 @@ number_at machine n k [] d numbered h = absurd (omega arith)
 number_at machine n zero (x ∷ xs) d numbered h = let a = numbered.0 in omega arith
 number_at machine n (suc k) (x ∷ xs) d numbered h = let r = number_at machine (suc n) k xs d numbered.1 (omega arith) in omega arith
 
+number_is : (machine : MachineParts) (k : ℕ) (xs : List StationModel) (d : StationModel) → IsNumbered (wind_tunnel machine) 0 (nodes_of xs) → k < length xs → (get_or xs k d).node.state.number ≡ k
+number_is machine k xs d numbered h = let r = number_at machine 0 k xs d numbered h in omega arith
+
 -- two lists that agree at each place
 alike : (xs ys : List StationModel) → length xs ≡ length ys → ((k : ℕ) (d : StationModel) → k < length ys → get_or xs k d ≡ get_or ys k d) → xs ≡ ys
 alike [] [] same each = refl
@@ -220,7 +224,7 @@ module _ (engine : EngineModel) (running : IsRunning engine) (key : Key) (event 
           below : (m : Message Msg) → (l : Stamped) × IsIn l full × (m ≡ message_under_key l) → m.0.from < length engine.stations
           below m (l, member, e) = subst (λ (k : Message Msg). k.0.from < length engine.stations) (sym e) (sources l member)
 
-      chosen : ℕ → List Stamped
+      abbrev chosen : ℕ → List Stamped
       chosen to = cond (to == node) full (letters_to to letters)
 
       all_merges : (to : ℕ) → to < length engine.stations → IsMerge (length engine.stations) (λ from. handed_to end engine.stations from to) (keyed (chosen to))
@@ -238,26 +242,20 @@ module _ (engine : EngineModel) (running : IsRunning engine) (key : Key) (event 
     first_given : (node : ℕ) → node < length engine.stations → (pass : PassModel) → HasPosted (length engine.stations) node letters pass → (s : StationModel) → IsIn s engine.stations → s.node.state.number ≡ node →
         (taken : List Stamped) → IsInOrder (with_taken taken pass).view → MayBeGiven taken (ran_to end s)
     first_given node there pass has s member e taken first =
-        first_may taken (rests count taken sent first_parts count) (ran_to end s)
-        (full_may node there (completed count taken sent first_parts) (completed_sources count taken sent first_parts sources) (completed_parts count taken sent first_parts) s member e)
+        first_may taken (rests (length engine.stations) taken (letters_to node letters) first_parts (length engine.stations)) (ran_to end s)
+        (full_may node there (completed (length engine.stations) taken (letters_to node letters) first_parts) (completed_sources (length engine.stations) taken (letters_to node letters) first_parts sources) (completed_parts (length engine.stations) taken (letters_to node letters) first_parts) s member e)
       where
-        abbrev count : ℕ
-        count = length engine.stations
-
-        abbrev sent : List Stamped
-        sent = letters_to node letters
-
-        first_parts : (source : ℕ) → source < count → (rest : List Stamped) × (part source sent ≡ part source taken ++ rest)
+        first_parts : (source : ℕ) → source < (length engine.stations) → (rest : List Stamped) × (part source (letters_to node letters) ≡ part source taken ++ rest)
         first_parts source h =
             let f = first.parts source (let lo = has.lo in omega arith, let hi = has.hi in omega arith) in
             (f.0, ap (part source) (sym has.sent) ∙ f.1)
 
-        sources : (l : Stamped) → IsIn l taken → l.from < count
+        sources : (l : Stamped) → IsIn l taken → l.from < (length engine.stations)
         sources l is = let r = in_all (λ (m : Stamped). m.from < pass.view.sources) taken first.sources l is in let e = has.sources in omega arith
 
     module _ (opened : List PassModel) (same : length opened ≡ length engine.stations) (are_opened : All (IsOpened (length engine.stations)) opened) where
       posted_here : (k : ℕ) (d : PassModel) → k < length engine.stations → HasPosted (length engine.stations) k letters (get_or (posted 0 letters opened) k d)
-      posted_here k d h = posted_at (length engine.stations) 0 k letters opened d are_opened (omega arith)
+      posted_here k d h = subst (λ n. HasPosted (length engine.stations) n letters (get_or (posted 0 letters opened) k d)) (omega arith) (posted_at (length engine.stations) 0 k letters opened d are_opened (omega arith))
 
       ran_here : (k : ℕ) (d : StationModel) → k < length engine.stations → get_or (map (ran_to end) engine.stations) k d ≡ ran_to end (get_or engine.stations k d)
       ran_here k d h = get_mapped (ran_to end) k engine.stations d d h
@@ -276,7 +274,7 @@ module _ (engine : EngineModel) (running : IsRunning engine) (key : Key) (event 
               good = goods k s (let a = length_mapped (ran_to end) engine.stations in omega arith);
               may = λ taken first. subst (MayBeGiven taken) (sym (ran_here k s below))
                   (first_given k below (get_or (posted 0 letters opened) k p) has (get_or engine.stations k s) (get_member k engine.stations s below)
-                  (number_at engine.machine 0 k engine.stations s running.world.numbered below) taken first);
+                  (number_is engine.machine k engine.stations s running.world.numbered below) taken first);
             };
       }
 
@@ -359,7 +357,7 @@ module _ (engine : EngineModel) (running : IsRunning engine) (key : Key) (event 
             let t = taken_here k p d below in
             t.given_it
             ∙ (λ i. given (sym (taken_at k passes p (let c = pass_count in omega arith)) i) (get_mapped (ran_to end) k engine.stations d d below i))
-            ∙ ap (λ n. given (taken_for passes n) (ran_to end (get_or engine.stations k d))) (sym (number_at engine.machine 0 k engine.stations d running.world.numbered below))
+            ∙ ap (λ n. given (taken_for passes n) (ran_to end (get_or engine.stations k d))) (sym (number_is engine.machine k engine.stations d running.world.numbered below))
             ∙ sym (get_mapped its_given k engine.stations d d below)
 
     abbrev went_to : ℕ → EngineModel
@@ -367,9 +365,10 @@ module _ (engine : EngineModel) (running : IsRunning engine) (key : Key) (event 
 
     -- The round was one of the interleavings of the core.
     pub interleaved : (threaded : ℕ) → IsInterleaved engine (went_to threaded)
+    unfolding have_met
     interleaved threaded = record {
       count = pass_count ∙ count_is;
-      passes = from_each 0 passes (λ k d h. is_pass k d (let c = pass_count in omega arith));
+      passes = from_each 0 passes (λ k d h. subst (λ n. IsPassOf engine (went_to threaded) n (get_or passes k d)) (omega arith) (is_pass k d (let c = pass_count in omega arith)));
       enabled = (is_round engine running key event is (taken_for passes) merges).enabled;
       core = core_is;
       begun = stations_begin engine running key event is;
@@ -404,3 +403,31 @@ module _ (engine : EngineModel) (running : IsRunning engine) (key : Key) (event 
     senders = are_senders 0 engine.stations (λ s h. h) running.world.numbered;
     taken = λ letters opened handed goods same are. are_to_be_taken letters handed opened same are goods;
   }
+
+-- ---- the loop over the inboxes
+
+pub one_more_taken : (i : ℕ) (ps qs : List PassModel) (ss ts : List StationModel) (d x : PassModel) (e y : StationModel) → length qs ≡ length ps → length ts ≡ length ss → length ss ≡ length ps → i < length ps →
+    ((k : ℕ) (p : PassModel) (s : StationModel) → k < i → HasTaken (get_or ps k p) (get_or qs k p) (get_or ss k s) (get_or ts k s)) →
+    ((k : ℕ) (p : PassModel) (s : StationModel) → i ≤ k → (get_or qs k p ≡ get_or ps k p) × (get_or ts k s ≡ get_or ss k s)) →
+    HasTaken (get_or qs i d) x (get_or ts i e) y →
+    (k : ℕ) (p : PassModel) (s : StationModel) → k < suc i → HasTaken (get_or ps k p) (get_or (set qs i x) k p) (get_or ss k s) (get_or (set ts i y) k s)
+one_more_taken i ps qs ss ts d x e y a b c h done left has k p s below = by (lt_or_le k i)
+  where
+    by : (k < i) ⊎ (i ≤ k) → HasTaken (get_or ps k p) (get_or (set qs i x) k p) (get_or ss k s) (get_or (set ts i y) k s)
+    by (inl less) = subst (λ (q : PassModel). HasTaken (get_or ps k p) q (get_or ss k s) (get_or (set ts i y) k s)) (sym (get_or-set_other qs i k x p (λ same. absurd (let l = less in omega arith))))
+        (subst (λ (t : StationModel). HasTaken (get_or ps k p) (get_or qs k p) (get_or ss k s) t) (sym (get_or-set_other ts i k y s (λ same. absurd (let l = less in omega arith)))) (done k p s less))
+    by (inr more) =
+        let same : i ≡ k = omega arith in
+        subst (λ (n : ℕ). HasTaken (get_or ps n p) (get_or (set qs i x) n p) (get_or ss n s) (get_or (set ts i y) n s)) same
+        (subst (λ (q : PassModel). HasTaken (get_or ps i p) q (get_or ss i s) (get_or (set ts i y) i s)) (sym (get_or-set_same qs i x p (omega arith)))
+        (subst (λ (t : StationModel). HasTaken (get_or ps i p) x (get_or ss i s) t) (sym (get_or-set_same ts i y s (omega arith)))
+        (subst (λ (o : PassModel). HasTaken o x (get_or ss i s) y) (get_or_default qs i d p (omega arith) ∙ (left i p s (omega arith)).0)
+        (subst (λ (o : StationModel). HasTaken (get_or qs i d) x o y) (get_or_default ts i e s (omega arith) ∙ (left i p s (omega arith)).1) has))))
+
+pub others_left : (i : ℕ) (ps qs : List PassModel) (ss ts : List StationModel) (x : PassModel) (y : StationModel) →
+    ((k : ℕ) (p : PassModel) (s : StationModel) → i ≤ k → (get_or qs k p ≡ get_or ps k p) × (get_or ts k s ≡ get_or ss k s)) →
+    (k : ℕ) (p : PassModel) (s : StationModel) → suc i ≤ k → (get_or (set qs i x) k p ≡ get_or ps k p) × (get_or (set ts i y) k s ≡ get_or ss k s)
+others_left i ps qs ss ts x y left k p s h = (
+  get_or-set_other qs i k x p (λ same. absurd (omega arith)) ∙ (left k p s (omega arith)).0,
+  get_or-set_other ts i k y s (λ same. absurd (omega arith)) ∙ (left k p s (omega arith)).1,
+)

@@ -1,17 +1,15 @@
 -- The shared inboxes of a round: what is put into them while the stations run, and what is taken out of them. Own.
 use Rattle.std.specs.Prelude.{◌≡◌, ⊤, ℕ, ◌+◌, ◌^◌, ◌<◌, ◌≤◌, ◌==◌, suc, zero, true, false, Bool, List, [], ◌∷◌, ◌++◌, length, map, get_or}
 use Rattle.std.specs.List.{All, filter}
-use Rattle.std.specs.declared.alloc.Global.{Global}
-use Rattle.crossbeam_queue.specs.SegTies.{SegId}
 use Rattle.wt_proto.specs.declared.message.Stamped.{Stamped}
 use Rattle.quantum.specs.FreeRuns.{IsHandedOut}
 use Rattle.quantum.specs.Stations.{StationModel}
-use Rattle.inbox.specs.Passes.{PassModel}
+use Rattle.inbox.specs.Passes.{InboxModel, PassModel}
 use Rattle.inbox.specs.Views.{HasSource, HasTakenMerge, IsInOrder, IsWhole, join_of, lower_of, upper_of}
 use Rattle.engine.specs.Quantum.{AreHandedOut, HaveRun, IsGood, MayBeGiven, given, ran_to}
 
 -- each pass is of the inbox in its place
-abbrev pub ArePassesOf : List (SegId Global) → List PassModel → Type 0
+abbrev pub ArePassesOf : List InboxModel → List PassModel → Type 0
 ArePassesOf inboxes passes = map (λ pass. pass.of) passes ≡ inboxes
 
 -- a pass of the sources from one up to another, by which nothing was put in yet
@@ -57,8 +55,9 @@ AreSenders until count number (station ∷ stations) =
     × AreSenders until count (suc number) stations
 
 -- stations from a number on may run up to a time and put in what they hand out, by passes of theirs
-pub record MayPost (until number : ℕ) (inboxes : List (SegId Global)) (passes : List PassModel) (stations : List StationModel) : Type 0 where
+pub record MayPost (until number : ℕ) (inboxes : List InboxModel) (passes : List PassModel) (stations : List StationModel) : Type 0 where
   pub few : number + length stations < 2 ^ 32
+  pub count : length passes < 2 ^ 32
   pub of : ArePassesOf inboxes passes
   pub fresh : All (IsFresh number (number + length stations)) passes
   pub senders : AreSenders until (length passes) number stations
@@ -100,9 +99,9 @@ both_parts pass above = record pass { view = join_of pass.view above.view }
 
 -- passes and their upper parts, which were lent
 abbrev pub AreLent : List PassModel → List PassModel → Type 0
-AreLent [] [] = ⊤
+AreLent passes [] = ⊤
 AreLent (pass ∷ passes) (above ∷ uppers) = (above.of ≡ pass.of) × (pass.view.hi ≡ above.view.lo) × AreLent passes uppers
-AreLent passes uppers = ⊥
+AreLent [] (above ∷ uppers) = ⊥
 
 abbrev pub all_united : List PassModel → List PassModel → List PassModel
 all_united (pass ∷ passes) (above ∷ uppers) = both_parts pass above ∷ all_united passes uppers
@@ -120,7 +119,7 @@ pub record HaveTaken (passes_before passes_after : List PassModel) (before after
       HasTaken (get_or passes_before place pass) (get_or passes_after place pass) (get_or before place station) (get_or after place station)
 
 -- the same, whatever the number of the first station
-pub record CanPost (until : ℕ) (inboxes : List (SegId Global)) (passes : List PassModel) (stations : List StationModel) : Type 0 where
+pub record CanPost (until : ℕ) (inboxes : List InboxModel) (passes : List PassModel) (stations : List StationModel) : Type 0 where
   pub number : ℕ
   pub may : MayPost until number inboxes passes stations
 

@@ -1,4 +1,4 @@
-ghost use Rattle.std.specs.Prelude.{◌≡◌, ◌<◌, ◌≤◌, All, IfOk, OnOk, get_or, length, map};
+ghost use Rattle.std.specs.Prelude.{◌≡◌, ◌<◌, ◌≤◌, ◌^◌, All, IfOk, OnOk, get_or, length, map};
 ghost use Rattle.engine.specs.Inboxes.{AreLent, ArePassesOf, AreToBeTaken, HasTaken, HaveTaken, IsOpened, MayBePosted, MayBeTaken, all_united, lower_part, posted, upper_part};
 
 use event_queue::Steps;
@@ -10,7 +10,11 @@ use std::sync::ledger::Ledger;
 use wt_params::NoMemory;
 
 /// The inboxes of so many nodes, and a pass of all sources for each.
-pub fn open_all<R: Wait>(rt: &R, alloc: Global, nodes: u32) -> Result<(Vec<Inbox>, Vec<Pass>), NoMemory>
+pub fn open_all<R: Wait>(
+    rt: &R,
+    alloc: Global,
+    nodes: u32,
+) -> Result<(Vec<Inbox>, Vec<Pass>), NoMemory>
     ensures of { IfOk result (λ opened. ArePassesOf opened.0.items opened.1.items) }
     ensures count { IfOk result (λ opened. length opened.1.items ≡ nodes) }
     ensures passes { IfOk result (λ opened. All (IsOpened nodes) opened.1.items) }
@@ -70,6 +74,7 @@ pub fn split_all(
 pub fn unite_all<R: Wait>(rt: &R, inboxes: &[Inbox], passes: &mut [Pass], uppers: Vec<Pass>)
     requires of { ArePassesOf inboxes.now passes.old }
     requires lent { AreLent passes.old uppers.items }
+    requires few { length passes.old < 2 ^ 32 }
     ensures { passes.new ≡ all_united passes.old uppers.items }
 {
     let mut uppers = uppers;

@@ -1,7 +1,7 @@
-ghost use Rattle.std.specs.Prelude.{◌≡◌, ◌+◌, ◌-◌, ◌<◌, ◌≤◌, ◌^◌, IfOk, OnOk, length};
+ghost use Rattle.std.specs.Prelude.{◌≡◌, ◌+◌, ◌-◌, ◌<◌, ◌≤◌, ◌^◌, IfOk, OnOk, drop, length, map, take};
 ghost use Rattle.std.specs.Thread.{IsSync};
 ghost use Rattle.engine.specs.Quantum.{HaveExchanged, MayExchange, MayRun};
-ghost use Rattle.engine.specs.Inboxes.{CanPost, HaveMet, HavePosted, MayMeet, MayPost};
+ghost use Rattle.engine.specs.Inboxes.{CanPost, HaveMet, HavePosted, MayMeet, MayPost, lower_part, upper_part};
 
 use crate::inboxes::{deposit_all, open_all, split_all, take_all, unite_all};
 use crate::stations::{deliver, run_all};
@@ -110,6 +110,37 @@ fn run_part_counted<L: Ledger, R: Wait>(
     Ok(())
 }
 
+/// How many of some stations go to the workers of the left side. Each side has a station for each of its workers.
+fn cut_at(stations: usize, left: u32, parts: u32) -> usize
+    requires sides { (0 < left) × (left < parts) }
+    requires enough { parts ≤ stations }
+    requires few { stations < 2 ^ 32 }
+    ensures left { left ≤ result }
+    ensures right { (parts - left) + result ≤ stations }
+{
+    stations * left as usize / parts as usize
+}
+
+/// Cuts the passes of some stations, of which the first has a number, for two sides. The upper parts are handed out.
+fn split_passes(
+    alloc: Global,
+    inboxes: &[Inbox],
+    passes: &mut [Pass],
+    number: u32,
+    until: u64,
+    stations: &[Station],
+    at: usize,
+) -> Result<Vec<Pass>, NoMemory>
+    requires inside { (0 < at) × (at < length stations.now) }
+    requires post { MayPost until number inboxes.now passes.old stations.now }
+    ensures lower { OnOk result (passes.new ≡ map (lower_part (number + at)) passes.old) }
+    ensures upper { IfOk result (λ uppers. uppers.items ≡ map (upper_part (number + at)) passes.old) }
+    ensures front { OnOk result (MayPost until number inboxes.now passes.new (take at stations.now)) }
+    ensures back { IfOk result (λ uppers. MayPost until (number + at) inboxes.now uppers.items (drop at stations.now)) }
+{
+    split_all(alloc, inboxes, passes, number + at as u32)
+}
+
 /// The stations, of which the first has a number, are halved until there are so many parts, each for a worker of its own;
 /// the workers are numbered from the first on. A part runs as soon as its worker has passed the gate.
 fn run_parts<R: Threads + Wait + Sync, G: Gate + Sync>(
@@ -136,9 +167,9 @@ fn run_parts<R: Threads + Wait + Sync, G: Gate + Sync>(
         return run_part(rt, until, inboxes, passes, stations);
     }
     let left = parts - parts / 2;
-    let at = stations.len() * left as usize / parts as usize;
+    let at = cut_at(stations.len(), left, parts);
     let mid = number + at as u32;
-    let mut uppers = split_all(alloc, inboxes, passes, mid)?;
+    let mut uppers = split_passes(alloc, inboxes, passes, number, until, stations, at)?;
     let lent = uppers.as_mut_slice();
     let (front, back) = stations.split_at_mut(at);
     let (fronts, backs) = join_mut(

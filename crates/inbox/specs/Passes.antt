@@ -7,9 +7,13 @@ use Rattle.wt_proto.specs.declared.message.Stamped.{Stamped}
 use Rattle.inbox.specs.declared.view.View.{View}
 use Rattle.inbox.specs.Views.{HasSource, IsInUse, TakesInOrder}
 
+-- an inbox, by what tells it from others
+abbrev pub InboxModel : Type 0
+InboxModel = SegId Global
+
 -- which inbox it is of, and what it knows
 pub record PassModel : Type 0 where
-  pub of : SegId Global
+  pub of : InboxModel
   pub view : View
 
 -- The view has the range and the right that the pass has. It isn't left behind by a join. What was put in through it is of

@@ -48,6 +48,36 @@ overflow_add-self g c = let few = few_quanta _ (c.self.invariant c.if-self.false
 pub overflow_add-self-2 : goal.overflow_add-self-2
 overflow_add-self-2 g c = let few = few_threads _ (c.self.invariant c.if-self.false) in omega arith
 
--- what the quantum has come to
-the_done : (g : given.Over) (c : goal.After-drop-steps-inside-3 g) → Done c.args.self.now c.in-Some.time TODO
-the_done g c = TODO
+pub invariant_of-self-2 : goal.invariant_of-self-2
+invariant_of-self-2 g c =
+    let running = c.self.invariant c.if-self.false in
+    let end : c.quantum_end-until.result ≡ quantum_end (wind_tunnel c.self.inside.machine) c.in-Some.time = c.quantum_end-until.ensures ∙ ap (λ (e : EngineModel). quantum_end (wind_tunnel e.machine) c.in-Some.time) (sym c.self.view_is) in
+    let items : c.deref_mut.result.now ≡ c.self.inside.stations.items = c.deref_mut.ensures.value in
+    let new = c.advance_by_workers.new.stations in
+    let long : length new ≡ c.self.inside.stations.len = let l = c.self.inside.stations.ok.0 in let k = ap (length {A = StationModel}) items in let a = c.advance_by_workers.auto.stations in omega arith in
+    let have = subst (λ (xs : List StationModel). HaveMet c.quantum_end-until.result xs new c.in_ok-self-inside.field-0.items) items c.in_ok-self-inside.ensures in
+    λ whole. (gone_by_inboxes _ c.args.self.now c.self.view_is running c.in-Some.time c.quantum_end-until.result (ap earliest_of (sym c.deref.ensures.value) ∙ sym c.in-Some.ensures) end new _
+    (written c.self.inside.stations.len new (drop (length new) c.self.inside.stations.items) long) c.in_ok-self-inside.field-0.items have).running
+
+pub returns-clause-goes : goal.returns-clause-goes
+returns-clause-goes g c =
+    let running = c.self.invariant c.if-self.false in
+    let end : c.quantum_end-until.result ≡ quantum_end (wind_tunnel c.self.inside.machine) c.in-Some.time = c.quantum_end-until.ensures ∙ ap (λ (e : EngineModel). quantum_end (wind_tunnel e.machine) c.in-Some.time) (sym c.self.view_is) in
+    let items : c.deref_mut.result.now ≡ c.self.inside.stations.items = c.deref_mut.ensures.value in
+    let new = c.advance_by_workers.new.stations in
+    let long : length new ≡ c.self.inside.stations.len = let l = c.self.inside.stations.ok.0 in let k = ap (length {A = StationModel}) items in let a = c.advance_by_workers.auto.stations in omega arith in
+    let have = subst (λ (xs : List StationModel). HaveMet c.quantum_end-until.result xs new c.in_ok-self-inside.field-0.items) items c.in_ok-self-inside.ensures in
+    went c.args.self.now _ c.in-Some.time (gone_by_inboxes _ c.args.self.now c.self.view_is running c.in-Some.time c.quantum_end-until.result (ap earliest_of (sym c.deref.ensures.value) ∙ sym c.in-Some.ensures) end new _
+    (written c.self.inside.stations.len new (drop (length new) c.self.inside.stations.items) long) c.in_ok-self-inside.field-0.items have)
+    (ap (λ (e : EngineModel). e.broken) (sym c.self.view_is) ∙ c.if-self.false) refl (ap (λ (e : EngineModel). e.machine) c.self.view_is)
+
+pub returns-clause-inboxes : goal.returns-clause-inboxes
+returns-clause-inboxes g c =
+    let running = c.self.invariant c.if-self.false in
+    let end : c.quantum_end-until.result ≡ quantum_end (wind_tunnel c.self.inside.machine) c.in-Some.time = c.quantum_end-until.ensures ∙ ap (λ (e : EngineModel). quantum_end (wind_tunnel e.machine) c.in-Some.time) (sym c.self.view_is) in
+    let items : c.deref_mut.result.now ≡ c.self.inside.stations.items = c.deref_mut.ensures.value in
+    let new = c.advance_by_workers.new.stations in
+    let long : length new ≡ c.self.inside.stations.len = let l = c.self.inside.stations.ok.0 in let k = ap (length {A = StationModel}) items in let a = c.advance_by_workers.auto.stations in omega arith in
+    let have = subst (λ (xs : List StationModel). HaveMet c.quantum_end-until.result xs new c.in_ok-self-inside.field-0.items) items c.in_ok-self-inside.ensures in
+    was_interleaved _ c.args.self.now c.self.view_is running c.in-Some.time c.quantum_end-until.result (ap earliest_of (sym c.deref.ensures.value) ∙ sym c.in-Some.ensures) end new _
+    (written c.self.inside.stations.len new (drop (length new) c.self.inside.stations.items) long) c.in_ok-self-inside.field-0.items have
