@@ -43,7 +43,7 @@ module _ (machine : MachineParts) (numbers : IsMachine machine) (core : Core Nod
   begun = (amid machine numbers core r).begun
 
   abbrev engine : EngineModel
-  engine = record { machine = machine; stations = models; kept_end = core.kept_end; quanta = core.quanta; threaded = 0; broken = false }
+  engine = record { machine = machine; stations = models; kept_end = core.kept_end; quanta = core.quanta; threaded = 0; passes = []; broken = false }
 
   same : core ≡ core_of sim begun
   same = (amid machine numbers core r).rest rest

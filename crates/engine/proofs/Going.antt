@@ -13,13 +13,28 @@ use Rattle.node.specs.React.{wind_tunnel}
 use Rattle.quantum.specs.Stations.{StationModel, IsUnbroken as IsWholeStation, machine_of}
 use Rattle.engine.specs.Engine.{EngineModel, IsRunning, IsUnbroken, world_of}
 use Rattle.engine.specs.declared.engine.Round.TheVariants.{Ended, More}
-use Rattle.engine.specs.Rounds.{GoesRound, IsOver}
+use Rattle.inbox.specs.Passes.{PassModel}
+use Rattle.engine.specs.Rounds.{GoesRound, IsInterleaved, IsOver}
 use Rattle.engine.specs.Quantum.{HaveAdvanced, HaveExchanged, MayExchange, MayRun, earliest_of}
+use Rattle.engine.specs.Inboxes.{HaveMet, MayMeet}
 use Rattle.engine.proofs.Places.{all_by}
 use Rattle.engine.proofs.Owned.{earliest_is, its}
 use Rattle.engine.proofs.Letters.{early, exchanges, forward}
 use Rattle.engine.proofs.Merges.{have_advanced, numbered_length}
+use Rattle.engine.proofs.Taking.{have_met, interleaved, may_meet as may_meet_at}
 use Rattle.engine.proofs.Quanta.{Done, done, event_at, events_bound, is_final, no_past}
+
+-- an engine after a quantum that was run by threads
+abbrev pub by_inboxes : EngineModel → ℕ → List PassModel → List StationModel → ℕ → EngineModel
+by_inboxes engine threaded passes stations until = record {
+  machine = engine.machine;
+  threaded = threaded;
+  passes = passes;
+  stations = stations;
+  kept_end = until;
+  quanta = engine.quanta + 1;
+  broken = false;
+}
 
 module _ (engine : EngineModel) (running : IsRunning engine) where
   pub all_whole : All IsWholeStation engine.stations
@@ -70,7 +85,7 @@ module _ (engine : EngineModel) (running : IsRunning engine) where
     may_exchange = at_time (λ t. MayExchange (quantum_end (wind_tunnel engine.machine) t) engine.stations) (λ key event is letters handed. (exchanges engine running key event is letters handed).may)
 
     abbrev after : ℕ → List StationModel → EngineModel
-    after until stations = record { machine = engine.machine; threaded = engine.threaded; stations = stations; kept_end = until; quanta = engine.quanta + 1; broken = false }
+    after until stations = record { machine = engine.machine; threaded = engine.threaded; passes = engine.passes; stations = stations; kept_end = until; quanta = engine.quanta + 1; broken = false }
 
     pub advanced : (stations : List StationModel) → HaveAdvanced (quantum_end (wind_tunnel engine.machine) time) engine.stations stations → Done engine time (after (quantum_end (wind_tunnel engine.machine) time) stations)
     advanced stations = at_time (λ t. HaveAdvanced (quantum_end (wind_tunnel engine.machine) t) engine.stations stations → Done engine t (after (quantum_end (wind_tunnel engine.machine) t) stations)) each
@@ -84,18 +99,59 @@ module _ (engine : EngineModel) (running : IsRunning engine) where
     exchanged stations = at_time (λ t. HaveExchanged (quantum_end (wind_tunnel engine.machine) t) engine.stations stations → HaveAdvanced (quantum_end (wind_tunnel engine.machine) t) engine.stations stations)
         (λ key event is have. have_advanced engine running key event is stations have)
 
+    -- Stations may meet by shared inboxes, and what they come to is by merges; it is one of the interleavings of the core.
+    pub may_meet : MayMeet (quantum_end (wind_tunnel engine.machine) time) engine.stations
+    may_meet = at_time (λ t. MayMeet (quantum_end (wind_tunnel engine.machine) t) engine.stations) (λ key event is. may_meet_at engine running key event is)
+
+    pub met : (passes : List PassModel) (stations : List StationModel) → HaveMet (quantum_end (wind_tunnel engine.machine) time) engine.stations stations passes → HaveAdvanced (quantum_end (wind_tunnel engine.machine) time) engine.stations stations
+    met passes stations = at_time (λ t. HaveMet (quantum_end (wind_tunnel engine.machine) t) engine.stations stations passes → HaveAdvanced (quantum_end (wind_tunnel engine.machine) t) engine.stations stations)
+        (λ key event is have. have_met engine running key event is passes stations have)
+
+    pub went_by_inboxes : (threaded : ℕ) (passes : List PassModel) (stations : List StationModel) → HaveMet (quantum_end (wind_tunnel engine.machine) time) engine.stations stations passes →
+        IsInterleaved engine (by_inboxes engine threaded passes stations (quantum_end (wind_tunnel engine.machine) time))
+    went_by_inboxes threaded passes stations = at_time (λ t. HaveMet (quantum_end (wind_tunnel engine.machine) t) engine.stations stations passes → IsInterleaved engine (by_inboxes engine threaded passes stations (quantum_end (wind_tunnel engine.machine) t)))
+        (λ key event is have. interleaved engine running key event is passes stations have threaded)
+
 -- all of a list is written
 pub written : (n : ℕ) (xs ys : List StationModel) → length xs ≡ n → take n (xs ++ ys) ≡ xs
 written n xs ys e = ap (λ k. take k (xs ++ ys)) (sym e) ∙ take-append_seam xs ys
 
-pub gone_on : (view now : EngineModel) → view ≡ now → IsRunning view → (time until : ℕ) → earliest_of view.stations ≡ Some time → until ≡ quantum_end (wind_tunnel view.machine) time →
-    (new written_to : List StationModel) → HaveExchanged until view.stations new → written_to ≡ new →
-    Done now time (record { machine = view.machine; threaded = view.threaded; stations = written_to; kept_end = until; quanta = view.quanta + 1; broken = false })
-gone_on view now same running time until first end new written_to have is =
-    subst (λ e. Done e time (record { machine = view.machine; threaded = view.threaded; stations = written_to; kept_end = until; quanta = view.quanta + 1; broken = false })) same
-    (subst (λ ss. Done view time (record { machine = view.machine; threaded = view.threaded; stations = ss; kept_end = until; quanta = view.quanta + 1; broken = false })) (sym is)
-    (subst (λ u. Done view time (record { machine = view.machine; threaded = view.threaded; stations = new; kept_end = u; quanta = view.quanta + 1; broken = false })) (sym end)
-    (advanced view running time first new (exchanged view running time first new (subst (λ u. HaveExchanged u view.stations new) end have)))))
+-- An engine that counts the quantum as run by threads, and keeps the passes, goes on as well.
+by_threads : (engine : EngineModel) → IsRunning engine → (time until : ℕ) (stations : List StationModel) (passes : List PassModel) → Done engine time (by_inboxes engine engine.threaded engine.passes stations until) → Done engine time (by_inboxes engine (engine.threaded + 1) passes stations until)
+by_threads engine running time until stations passes is = record {
+  running = record {
+    numbers = is.running.numbers;
+    stations = is.running.stations;
+    world = is.running.world;
+    between = is.running.between;
+    counted = is.running.counted;
+    threads = let t = running.threads in let g = is.quantum.grows in omega (arith, t, g);
+  };
+  serial = is.serial;
+  quantum = record { time = is.quantum.time; next = is.quantum.next; kept_end = is.quantum.kept_end; quanta = is.quantum.quanta; none_left = is.quantum.none_left; grows = is.quantum.grows };
+  same_end = is.same_end;
+}
+
+-- what the code of a round has come to: the stations it was given were written back, up to the end of the quantum
+module _ (view now : EngineModel) (same : view ≡ now) (running : IsRunning view) (time until : ℕ) (first : earliest_of view.stations ≡ Some time) (end : until ≡ quantum_end (wind_tunnel view.machine) time) (new written_to : List StationModel) (is : written_to ≡ new) where
+  -- the same of the engine that the code has
+  as_written : (P : EngineModel → ℕ → List StationModel → Type 0) → P view (quantum_end (wind_tunnel view.machine) time) new → P now until written_to
+  as_written P p = subst (λ e. P e until written_to) same (subst (P view until) (sym is) (subst (λ u. P view u new) (sym end) p))
+
+  pub gone_on : HaveExchanged until view.stations new → Done now time (record { machine = view.machine; threaded = view.threaded; passes = view.passes; stations = written_to; kept_end = until; quanta = view.quanta + 1; broken = false })
+  gone_on have = as_written (λ e u ss. Done e time (record { machine = view.machine; threaded = view.threaded; passes = view.passes; stations = ss; kept_end = u; quanta = view.quanta + 1; broken = false }))
+      (advanced view running time first new (exchanged view running time first new (subst (λ u. HaveExchanged u view.stations new) end have)))
+
+  module _ (passes : List PassModel) (have : HaveMet until view.stations new passes) where
+    had : HaveMet (quantum_end (wind_tunnel view.machine) time) view.stations new passes
+    had = subst (λ u. HaveMet u view.stations new passes) end have
+
+    pub gone_by_inboxes : Done now time (by_inboxes view (view.threaded + 1) passes written_to until)
+    gone_by_inboxes = as_written (λ e u ss. Done e time (by_inboxes view (view.threaded + 1) passes ss u))
+        (by_threads view running time (quantum_end (wind_tunnel view.machine) time) new passes (advanced view running time first new (met view running time first passes new had)))
+
+    pub was_interleaved : IsInterleaved now (by_inboxes view (view.threaded + 1) passes written_to until)
+    was_interleaved = as_written (λ e u ss. IsInterleaved e (by_inboxes view (view.threaded + 1) passes ss u)) (went_by_inboxes view running time first (view.threaded + 1) passes new had)
 
 -- ---- what a call for a round has come to
 
@@ -121,32 +177,6 @@ went now after time is whole still machine = record {
   unbroken = (whole, still);
   machine = machine;
   broken = tt;
-}
-
--- An engine whose quantum was run by threads.
-abbrev pub with_thread : EngineModel → EngineModel
-with_thread engine = record {
-  machine = engine.machine;
-  stations = engine.stations;
-  kept_end = engine.kept_end;
-  quanta = engine.quanta;
-  threaded = engine.threaded + 1;
-  broken = engine.broken;
-}
-
-pub by_threads : (now after : EngineModel) (time : ℕ) → IsRunning now → after.threaded ≡ now.threaded → Done now time after → Done now time (with_thread after)
-by_threads now after time running same is = record {
-  running = record {
-    numbers = is.running.numbers;
-    stations = is.running.stations;
-    world = is.running.world;
-    between = is.running.between;
-    counted = is.running.counted;
-    threads = let t = running.threads in let g = is.quantum.grows in omega (arith, same, t, g);
-  };
-  serial = is.serial;
-  quantum = record { time = is.quantum.time; next = is.quantum.next; kept_end = is.quantum.kept_end; quanta = is.quantum.quanta; none_left = is.quantum.none_left; grows = is.quantum.grows };
-  same_end = is.same_end;
 }
 
 -- An engine counts few rounds of threads.

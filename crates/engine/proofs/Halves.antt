@@ -1,5 +1,7 @@
 -- Stations that are cut in two parts, each of which runs on its own.
-use Rattle.std.proofs.Common.{◌≡◌, ℕ, List, [], ◌∷◌, ◌++◌, map, refl, ap, sym, ◌∙◌, subst, append_assoc}
+use Rattle.std.proofs.Common.{◌≡◌, ℕ, ◌+◌, ◌-◌, ◌*◌, ◌/◌, ◌<◌, ◌≤◌, arith, List, [], ◌∷◌, ◌++◌, map, refl, ap, sym, ◌∙◌, subst, append_assoc}
+use Rattle.std.proofs.Math.Nat.{div-le_of_le-mul}
+use Rattle.std.proofs.lemmas.Nat.{le-div}
 use Rattle.std.proofs.lemmas.List.Elements.{All-append}
 use Rattle.wt_proto.specs.declared.message.Stamped.{Stamped}
 use Rattle.quantum.specs.Stations.{StationModel}
@@ -23,3 +25,26 @@ both_have_run until stations front back front_after back_after fronts backs lett
   outs = subst (λ (ss : List StationModel). AreHandedOut until ss letters) (sym cut) (subst (AreHandedOut until (front ++ back)) (sym both) (handed_out_by_both until front back fronts backs one.outs other.outs));
   good = All-append IsGood front_after back_after one.good other.good;
 }
+
+-- ---- the place of the cut
+
+times_more : (left parts len : ℕ) → parts ≤ len → left * parts ≤ len * left
+times_more left parts len enough = grind arith
+
+apart : (left right more : ℕ) → (left + right + more) * left ≤ (left + right) * (left + more)
+apart left right more = grind arith
+
+-- each side has a station for each of its workers
+pub left_is_enough : (parts len left at : ℕ) → parts ≤ len → at ≡ len * left / parts → 0 < parts → left ≤ at
+left_is_enough parts len left at enough is some = subst (λ n. left ≤ n) (sym is) (le-div left (len * left) parts some (times_more left parts len enough))
+
+pub right_is_enough : (parts len left at : ℕ) → parts ≤ len → at ≡ len * left / parts → left ≤ parts → (parts - left) + at ≤ len
+right_is_enough parts len left at enough is half =
+    let right = parts - left in
+    let more = len - parts in
+    let a : (left + right + more) * left ≤ (left + right) * (left + more) = apart left right more in
+    let p : left + right ≡ parts = omega arith in
+    let l : left + right + more ≡ len = omega arith in
+    let b : len * left ≤ parts * (left + more) = subst (λ n. n * left ≤ parts * (left + more)) l (subst (λ n. (left + right + more) * left ≤ n * (left + more)) p a) in
+    let c : len * left / parts ≤ left + more = div-le_of_le-mul parts b in
+    omega arith

@@ -122,7 +122,7 @@ module _ (engine : EngineModel) (running : IsRunning engine) (key : Key) (event 
     pub least : s.node.state.counters.sent ≤ m.sequence
     pub most : m.sequence < (ran_to until s).node.state.counters.sent
 
-  outs_are : (s : StationModel) → IsIn s engine.stations → (outs : List Stamped) → IsHandedOut until s (ran_to until s) outs → (m : Stamped) → IsIn m outs → IsSentBy m s
+  pub outs_are : (s : StationModel) → IsIn s engine.stations → (outs : List Stamped) → IsHandedOut until s (ran_to until s) outs → (m : Stamped) → IsIn m outs → IsSentBy m s
   outs_are s member outs handed m h = record {
     source = (run_is s member).source (message_under_key m) sent;
     away = (run_is s member).away (message_under_key m) sent;

@@ -5,6 +5,8 @@ pub mod Halves
 pub mod Owned
 pub mod Letters
 pub mod Merges
+pub mod Posting
+pub mod Taking
 pub mod Quanta
 pub mod Going
 pub mod StartLemmas

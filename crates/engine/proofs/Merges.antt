@@ -211,7 +211,7 @@ module _ (engine : EngineModel) (running : IsRunning engine) (key : Key) (event 
     is_world = from_world sim (IsNode engine.machine) (Fits engine.machine) (laws engine running) (world_of engine) after running.world
         (round_is_serial sim (IsNode engine.machine) (Fits engine.machine) (laws engine running) (wind engine running).quanta (world_of engine) key event running.world running.between is).serial
 
-    pub world_is : world_of (record { machine = engine.machine; threaded = engine.threaded; stations = stations; kept_end = end; quanta = engine.quanta + 1; broken = false }) ≡ after
+    pub world_is : world_of (record { machine = engine.machine; threaded = engine.threaded; passes = engine.passes; stations = stations; kept_end = end; quanta = engine.quanta + 1; broken = false }) ≡ after
     world_is =
         (λ i. record {
           nodes = (sym (map_map (λ (t : Station NodeState Msg). t.node) station_of stations) ∙ ap (map (λ (t : Station NodeState Msg). t.node)) stations_are) i;
@@ -237,7 +237,7 @@ module _ (engine : EngineModel) (running : IsRunning engine) (key : Key) (event 
         ∙ flat_map_alike (λ s. (run engine running key event is s).outs) (λ s. quantum_outs sim end (world_of engine) s.node.state) engine.stations outs_are
         ∙ sym (flat_map_map (quantum_outs sim end (world_of engine)) (λ (s : StationModel). s.node.state) engine.stations))
 
-    merge_in_order : (to : ℕ) → to < length engine.stations → IsMerge (length engine.stations) (λ from. handed_to end engine.stations from to) (map message_under_key (letters_to to letters))
+    pub merge_in_order : (to : ℕ) → to < length engine.stations → IsMerge (length engine.stations) (λ from. handed_to end engine.stations from to) (map message_under_key (letters_to to letters))
     merge_in_order to h =
         let c = count in
         let m = subst (IsMerge sim.nodes (λ from. sent_to sim end (world_of engine) from to)) (sym (in_order_of to)) (in_order sim (IsNode engine.machine) (Fits engine.machine) (laws engine running) (world_of engine) running.world end (within engine running key event is) to) in

@@ -67,7 +67,7 @@ module _ (engine : EngineModel) (running : IsRunning engine) (key : Key) (event 
 
   module _ (stations : List StationModel) (have : HaveAdvanced end engine.stations stations) where
     abbrev after : EngineModel
-    after = record { machine = engine.machine; threaded = engine.threaded; stations = stations; kept_end = end; quanta = engine.quanta + 1; broken = false }
+    after = record { machine = engine.machine; threaded = engine.threaded; passes = engine.passes; stations = stations; kept_end = end; quanta = engine.quanta + 1; broken = false }
 
     serial_round : IsSerialRound sim (world_of engine) (world_of after)
     serial_round = subst (IsSerialRound sim (world_of engine)) (sym (world_is engine running key event is stations have))

@@ -36,7 +36,7 @@ quanta_of engine = record { kept_end = engine.kept_end; count = engine.quanta }
 
 -- an engine of one station
 abbrev pub with_one : EngineModel → StationModel → Quanta → EngineModel
-with_one engine station quanta = record { machine = engine.machine; threaded = engine.threaded; stations = station ∷ []; kept_end = quanta.kept_end; quanta = quanta.count; broken = false }
+with_one engine station quanta = record { machine = engine.machine; threaded = engine.threaded; passes = engine.passes; stations = station ∷ []; kept_end = quanta.kept_end; quanta = quanta.count; broken = false }
 
 one_world : (engine : EngineModel) (station : StationModel) (quanta : Quanta) → world_of (with_one engine station quanta) ≡ sole_world station quanta
 one_world engine station quanta = λ i. record { nodes = station.node.state ∷ []; pending = together_one station.pending i; kept_end = quanta.kept_end; quanta = quanta.count }
@@ -124,7 +124,7 @@ pub record Ended (before after : EngineModel) : Type 0 where
   pub end : world_of after ≡ final (wind_tunnel before.machine) (world_of before)
 
 pub ended_alone : (engine : EngineModel) (running : IsRunning engine) (stations new : List StationModel) → engine.stations ≡ stations → (quanta : Quanta) → HaveEnded stations new (quanta_of engine) quanta →
-    Ended engine (record { machine = engine.machine; threaded = engine.threaded; stations = new; kept_end = quanta.kept_end; quanta = quanta.count; broken = false })
+    Ended engine (record { machine = engine.machine; threaded = engine.threaded; passes = engine.passes; stations = new; kept_end = quanta.kept_end; quanta = quanta.count; broken = false })
 ended_alone engine running (station ∷ []) (after ∷ []) only quanta ended = record { running = alone_running engine running station only after quanta ended; end = alone_end engine running station only after quanta ended }
 ended_alone engine running [] new only quanta ended = absurd ended
 ended_alone engine running (station ∷ []) [] only quanta ended = absurd ended
@@ -132,10 +132,10 @@ ended_alone engine running (station ∷ []) (after ∷ other ∷ rest) only quan
 ended_alone engine running (station ∷ other ∷ rest) new only quanta ended = absurd ended
 
 pub ended_on : (view now : EngineModel) → view ≡ now → IsRunning view → (given new written_to : List StationModel) → given ≡ view.stations → written_to ≡ new → (quanta : Quanta) → HaveEnded given new (quanta_of view) quanta →
-    Ended now (record { machine = view.machine; threaded = view.threaded; stations = written_to; kept_end = quanta.kept_end; quanta = quanta.count; broken = false })
+    Ended now (record { machine = view.machine; threaded = view.threaded; passes = view.passes; stations = written_to; kept_end = quanta.kept_end; quanta = quanta.count; broken = false })
 ended_on view now same running given new written_to is written_is quanta ended =
-    subst (λ e. Ended e (record { machine = view.machine; threaded = view.threaded; stations = written_to; kept_end = quanta.kept_end; quanta = quanta.count; broken = false })) same
-    (subst (λ ss. Ended view (record { machine = view.machine; threaded = view.threaded; stations = ss; kept_end = quanta.kept_end; quanta = quanta.count; broken = false })) (sym written_is)
+    subst (λ e. Ended e (record { machine = view.machine; threaded = view.threaded; passes = view.passes; stations = written_to; kept_end = quanta.kept_end; quanta = quanta.count; broken = false })) same
+    (subst (λ ss. Ended view (record { machine = view.machine; threaded = view.threaded; passes = view.passes; stations = ss; kept_end = quanta.kept_end; quanta = quanta.count; broken = false })) (sym written_is)
     (ended_alone view running given new (sym is) quanta ended))
 
 pub ran_alone : (stations : List StationModel) (old : Quanta) (d after : StationModel) → AreSole stations old → (result : Result Quanta NoMemory) → IfOk result (HasEnded (get_or stations 0 d) after old) →

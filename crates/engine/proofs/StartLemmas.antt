@@ -23,6 +23,7 @@ use Rattle.quantum.specs.Stations.{StationModel, IsLive, IsUnbroken as IsWholeSt
 use Rattle.quantum.specs.World.{World, start_of}
 use Rattle.quantum.specs.Starts.{IsWorldOf}
 use Rattle.quantum.proofs.AtStart.{start_of_sound}
+use Rattle.inbox.specs.Passes.{PassModel}
 use Rattle.engine.specs.Engine.{EngineModel, IsRunning, IsStationOf, all_pending, nodes_of, world_of}
 
 module _ (machine : MachineParts) (loaded : LoadedImages) (traced : Bool) where
@@ -53,7 +54,7 @@ module _ (machine : MachineParts) (loaded : LoadedImages) (traced : Bool) where
 
   module _ (numbers : IsMachine machine) (stations : List StationModel) (all : AreAtStart machine.nodes stations) where
     abbrev engine : EngineModel
-    engine = record { machine = machine; threaded = 0; stations = stations; kept_end = 0; quanta = 0; broken = false }
+    engine = record { machine = machine; threaded = 0; passes = []; stations = stations; kept_end = 0; quanta = 0; broken = false }
 
     nodes_are : nodes_of stations ≡ map (start_node machine loaded traced) (range_with_len 0 machine.nodes)
     nodes_are =
@@ -82,8 +83,8 @@ module _ (machine : MachineParts) (loaded : LoadedImages) (traced : Bool) where
     worlds = subst (λ (w : World). IsWorldOf machine w × IsBetweenQuanta (wind_tunnel machine) w) (sym world_is_start)
         (start_of_sound machine loaded traced numbers (λ node member. sound node (subst (λ ns. IsIn node ns) (sym nodes_are) member)))
 
-    pub running_at_start : IsRunning engine
-    running_at_start = record {
+    pub running_at_start : (passes : List PassModel) → IsRunning (record { machine = machine; threaded = 0; passes = passes; stations = stations; kept_end = 0; quanta = 0; broken = false })
+    running_at_start passes = record {
       numbers = numbers;
       stations = all.each;
       world = worlds.0;

@@ -14,15 +14,17 @@ use Rattle.node.specs.Sound.{IsNode}
 use Rattle.node.specs.Laws.{Fits}
 use Rattle.quantum.specs.Stations.{StationModel, IsLive, machine_of, IsUnbroken as IsWholeStation}
 use Rattle.quantum.specs.World.{World}
+use Rattle.inbox.specs.Passes.{PassModel}
 
 -- the stations of a machine, the end of the last quantum that was begun, the count of quanta and how many of these were
--- run by threads, and whether memory was refused
+-- run by threads, the passes of the last of these, and whether memory was refused
 pub record EngineModel : Type 0 where
   pub machine : MachineParts
   pub stations : List StationModel
   pub kept_end : ℕ
   pub quanta : ℕ
   pub threaded : ℕ
+  pub passes : List PassModel
   pub broken : Bool
 
 abbrev pub sim_of : EngineModel → Simulation NodeState Msg

@@ -8,7 +8,7 @@ ghost use Rattle.quantum.specs.Outcome.{head_of};
 ghost use Rattle.quantum.specs.Stations.{HasNoPast};
 ghost use Rattle.quantum.specs.World.{start_of};
 ghost use Rattle.engine.specs.Engine.{IsRunning, IsStationOf, IsUnbroken, events_so_far, sim_of, world_of};
-ghost use Rattle.engine.specs.Rounds.{GoesRound, threaded_after};
+ghost use Rattle.engine.specs.Rounds.{GoesRound, WentByInboxes, threaded_after};
 
 use crate::head::head;
 use crate::parts::{advance, advance_by_workers};
@@ -16,6 +16,7 @@ use crate::stations::{earliest, run_sole};
 use event_queue::Steps;
 use gate::Gate;
 use image_loader::Loaded;
+use inbox::Pass;
 use quantum::{Quanta, Station};
 use std::alloc::Global;
 use std::marker::{Brand, Model};
@@ -38,6 +39,8 @@ pub struct Engine {
     quanta: u64,
     /// How many of these were run by threads.
     threaded: u64,
+    /// The passes of the last of these, one for the inbox of each node.
+    passes: Vec<Pass>,
     broken: bool,
 }
 
@@ -56,6 +59,7 @@ impl Model for Engine {
       kept_end = engine.kept_end;
       quanta = engine.quanta;
       threaded = engine.threaded;
+      passes = engine.passes.items;
       broken = engine.broken;
     } };
 
@@ -65,6 +69,7 @@ impl Model for Engine {
       kept_end = engine.kept_end;
       quanta = engine.quanta;
       threaded = engine.threaded;
+      passes = engine.passes.items;
       broken = engine.broken;
     }) };
 }
@@ -105,6 +110,7 @@ impl Engine {
             kept_end: 0,
             quanta: 0,
             threaded: 0,
+            passes: Vec::new(alloc),
             broken: false,
         })
     }
@@ -114,6 +120,7 @@ impl Engine {
     pub fn round_plain(&mut self) -> Result<Round, NoMemory>
         ensures goes { GoesRound self.old self.new result }
         ensures threaded { self.new.threaded ≡ self.old.threaded }
+        ensures passes { self.new.passes ≡ self.old.passes }
     {
         self.round_counted::<Brand>(Blank::new(1))
     }
@@ -125,6 +132,7 @@ impl Engine {
         requires some { 0 < blank.parts }
         ensures goes { GoesRound self.old self.new result }
         ensures threaded { self.new.threaded ≡ self.old.threaded }
+        ensures passes { self.new.passes ≡ self.old.passes }
     {
         if self.broken {
             return Err(NoMemory);
@@ -153,7 +161,8 @@ impl Engine {
     }
 
     /// Does one quantum by so many workers, each with its part of the stations, in threads of the host. Each worker
-    /// passes the gate once, when its part begins.
+    /// passes the gate once, when its part begins. What its nodes send is put into the inboxes of the others at once, and
+    /// taken out when all parts have ended.
     pub fn round<R: Threads + Wait + Sync, G: Gate + Sync>(
         &mut self,
         rt: &R,
@@ -162,6 +171,7 @@ impl Engine {
     ) -> Result<Round, NoMemory>
         requires workers { InRange 1 16 workers }
         ensures goes { GoesRound self.old self.new result }
+        ensures inboxes { IfOk result (WentByInboxes self.old self.new) }
         ensures threaded { IfOk result (λ round. self.new.threaded ≡ threaded_after round self.old.threaded) }
     {
         self.round_threaded::<Brand, R, G>(Blank::new(1), rt, workers, gate)
@@ -180,6 +190,7 @@ impl Engine {
         requires some { 0 < blank.parts }
         requires workers { workers ≤ 16 }
         ensures goes { GoesRound self.old self.new result }
+        ensures inboxes { IfOk result (WentByInboxes self.old self.new) }
         ensures threaded { IfOk result (λ round. self.new.threaded ≡ threaded_after round self.old.threaded) }
     {
         if self.broken {
@@ -192,7 +203,7 @@ impl Engine {
         let until = self.quantum_end(time);
         let (alloc, round) = (self.alloc, self.quanta);
         self.broken = true;
-        advance_by_workers(
+        self.passes = advance_by_workers(
             rt,
             alloc,
             gate,
@@ -281,6 +292,13 @@ impl Engine {
         ensures { result ≡ self.now.threaded }
     {
         self.threaded
+    }
+
+    /// The passes of the last quantum that was run by threads, one for the inbox of each node.
+    pub fn passes(&self) -> &[Pass]
+        ensures { result.now ≡ self.now.passes }
+    {
+        &self.passes
     }
 
     /// What the run has come to.

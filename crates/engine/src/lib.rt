@@ -7,6 +7,7 @@
 
 mod engine;
 mod head;
+mod inboxes;
 mod parts;
 mod stations;
 

@@ -6,12 +6,12 @@ use Rattle.engine.proofs.engine.Engine.new.Goals as goal
 pub invariant_of-result : goal.invariant_of-result
 invariant_of-result c =
     let all = subst (λ (n : ℕ). AreAtStart c.args.machine c.args.loaded.now c.args.traced n c.loop-number.stations.items) (let p = ap (λ (m : MachineParts). m.nodes) c.parts.ensures.value in let e : c.loop-number.number ≡ c.args.machine.nodes = omega arith in e) c.loop-number.invariant in
-    λ whole. running_at_start c.args.machine c.args.loaded.now c.args.traced c.parts.ensures.machine c.loop-number.stations.items all
+    λ whole. running_at_start c.args.machine c.args.loaded.now c.args.traced c.parts.ensures.machine c.loop-number.stations.items all c.new-2.result.items
 
 pub returns-clause-running : goal.returns-clause-running
 returns-clause-running c =
     let all = subst (λ (n : ℕ). AreAtStart c.args.machine c.args.loaded.now c.args.traced n c.loop-number.stations.items) (let p = ap (λ (m : MachineParts). m.nodes) c.parts.ensures.value in let e : c.loop-number.number ≡ c.args.machine.nodes = omega arith in e) c.loop-number.invariant in
-    running_at_start c.args.machine c.args.loaded.now c.args.traced c.parts.ensures.machine c.loop-number.stations.items all
+    running_at_start c.args.machine c.args.loaded.now c.args.traced c.parts.ensures.machine c.loop-number.stations.items all c.new-2.result.items
 
 pub returns-clause-start : goal.returns-clause-start
 returns-clause-start c =

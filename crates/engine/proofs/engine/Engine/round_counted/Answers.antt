@@ -48,6 +48,7 @@ overflow_add-self g c = let few = few_quanta _ (c.self.invariant c.if-self.false
 the_done : (g : given.Over) (c : goal.After-drop-steps-inside-3 g) → Done c.args.self.now c.in-Some.time (record {
   machine = c.self.inside.machine;
   threaded = c.self.inside.threaded;
+  passes = c.self.inside.passes.items;
   stations = take c.self.inside.stations.len (c.advance.new.stations ++ drop (length c.advance.new.stations) c.self.inside.stations.items);
   kept_end = c.quantum_end-until.result;
   quanta = c.self.inside.quanta + 1;
@@ -59,8 +60,8 @@ the_done g c =
     let items : c.deref_mut.result.now ≡ c.self.inside.stations.items = c.deref_mut.ensures.value in
     let long : length c.advance.new.stations ≡ c.self.inside.stations.len = let l = c.self.inside.stations.ok.0 in let k = ap (length {A = StationModel}) items in let a = c.advance.auto.stations in omega arith in
     gone_on _ c.args.self.now c.self.view_is running c.in-Some.time c.quantum_end-until.result (ap earliest_of (sym c.deref.ensures.value) ∙ sym c.in-Some.ensures) end
-    c.advance.new.stations _ (subst (λ (xs : List StationModel). HaveExchanged c.quantum_end-until.result xs c.advance.new.stations) items c.in_ok-advance.ensures)
-    (written c.self.inside.stations.len c.advance.new.stations (drop (length c.advance.new.stations) c.self.inside.stations.items) long)
+    c.advance.new.stations _ (written c.self.inside.stations.len c.advance.new.stations (drop (length c.advance.new.stations) c.self.inside.stations.items) long)
+    (subst (λ (xs : List StationModel). HaveExchanged c.quantum_end-until.result xs c.advance.new.stations) items c.in_ok-advance.ensures)
 
 pub invariant_of-self-2 : goal.invariant_of-self-2
 invariant_of-self-2 g c = λ whole. (the_done g c).running
