@@ -124,7 +124,7 @@ module _ (machine : MachineParts) (loaded : LoadedImages) (traced : Bool) (numbe
       pairwise (k ∷ ks) = λ i. record { node = start_node machine loaded traced k; pending = sym (none_to (start_node machine loaded traced k).number) i; until = 0 } ∷ pairwise ks i
 
   start_world : IsWorldOf machine first
-  start_world = subst (IsWorldOf machine) (world_is_start machine loaded traced numbers models all) (running_at_start machine loaded traced numbers models all).world
+  start_world = subst (IsWorldOf machine) (world_is_start machine loaded traced numbers models all) (running_at_start machine loaded traced numbers models all []).world
 
   pub start_reached : IsReached machine (core_of (wind_tunnel machine) first)
   start_reached =

@@ -82,6 +82,8 @@ fn play_by<R: Abort + Threads + Wait + Sync, G: Gate + Sync>(
     }
     assert!(rt; engine.round(rt, workers, gate)? == Round::Ended);
     assert!(rt; engine.threaded() == case.rounds.len() as u64);
+    assert!(rt; engine.passes().len() as u64 == case.nodes);
+    assert!(rt; engine.passes().iter().all(|pass| pass.may_take()));
     assert!(rt; engine.head() == case.head);
     Ok(())
 }
