@@ -128,7 +128,7 @@ module _ (machine : MachineParts) (loaded : LoadedImages) (traced : Bool) (numbe
 
   pub start_reached : IsReached machine (core_of (wind_tunnel machine) first)
   start_reached =
-      let running = running_at_start machine loaded traced numbers models all in
+      let running = running_at_start machine loaded traced numbers models all [] in
       let is = world_is_start machine loaded traced numbers models all in
       record {
         begun = first;
