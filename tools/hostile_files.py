@@ -95,7 +95,7 @@ def _(room):
         room.put("m", machine([{"file": "a.elf"}], nodes=nodes, **fields))
         room.put("a.elf", elf([(1, 0, at, 0, size)] * 65535))
         room.expect(["check", "m"], 0, CHECKED, mib=512)
-        room.expect(["run", "m"], (1, 10), lambda out: True, mib=512)
+        room.expect(["run", "m"], 10, error=NO_MEMORY, mib=512)
 
 
 @case("each of 32 nodes names an executable of 64 MiB")
