@@ -3,7 +3,8 @@ ghost use Rattle.node.specs.Handled.{IsStepped, give_back_of, gives_back};
 ghost use Rattle.node.specs.Annotation.{annotated, checked_in, annotate_of};
 ghost use Rattle.node.specs.Sound.{IsNode};
 
-use crate::state::{NodeState, SendList, send_home};
+use crate::send_list::SendList;
+use crate::state::{NodeState, send_home};
 use cico_ops::{CicoAction, action};
 use rv_decode::CicoOp;
 use target_cache::Line;

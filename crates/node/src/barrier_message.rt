@@ -3,7 +3,8 @@ ghost use Rattle.node.specs.Handled.{IsHandled};
 ghost use Rattle.node.specs.BarrierMessage.{release_by, go_to, arrive_message_of, leave_message_of, go_message_of, has_unit};
 ghost use Rattle.node.specs.Sound.{IsNode, IsFew};
 
-use crate::state::{Course, NodeState, SendList, send_to};
+use crate::send_list::SendList;
+use crate::state::{Course, NodeState, send_to};
 use target_barrier::Release;
 use wt_params::{Machine, NoMemory};
 use wt_proto::{Body, Mode, NodeSet};

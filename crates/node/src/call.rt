@@ -3,7 +3,8 @@ ghost use Rattle.node.specs.Handled.{IsStepped};
 ghost use Rattle.node.specs.Call.{barrier_call_of, exit_of, call_of};
 ghost use Rattle.node.specs.Sound.{IsNode};
 
-use crate::state::{NodeState, SendList, send_to};
+use crate::send_list::SendList;
+use crate::state::{NodeState, send_to};
 use wt_params::{Machine, NoMemory};
 use wt_proto::{Body, Cause, Mode};
 use wt_trace::Deed;

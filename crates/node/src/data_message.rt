@@ -10,8 +10,9 @@ ghost use Rattle.node.specs.DataMessage.{asks_for, effect_at, resumed, installed
 ghost use Rattle.node.specs.Sound.{IsNode, IsAskedFor, WaitsFor};
 
 use crate::annotation::{give_back, give_line_back};
+use crate::send_list::SendList;
 use crate::shared_access::{offset, stored};
-use crate::state::{Course, NodeState, SendList};
+use crate::state::{Course, NodeState};
 use rv_decode::{LoadOp, StoreOp, decode};
 use rv_exec::{Effect, execute, load_width, store_width, widen};
 use target_cache::Line;

@@ -5,7 +5,8 @@ ghost use Rattle.node.specs.Handled.{IsHandled, sent_at};
 ghost use Rattle.node.specs.DirectoryMessage.{trap_of, directory_message_of};
 ghost use Rattle.node.specs.Sound.{IsNode};
 
-use crate::state::{Course, NodeState, Send, SendList};
+use crate::send_list::SendList;
+use crate::state::{Course, NodeState, Send};
 use dir1sw::DirAct;
 use std::alloc::Global;
 use trap_handler::run_trap;
@@ -33,7 +34,7 @@ impl NodeState {
         if machine.home(msg.block) != self.number {
             return Ok(self.count_stray());
         }
-        let mut out = Sends::new(alloc);
+        let mut out = sends.lend(alloc);
         let act = self.directory.arrive(from, msg, &mut out)?;
         send_all(time, out, sends)?;
         match act {
@@ -62,7 +63,7 @@ impl NodeState {
         requires cycles { self.old.counters.trap_cycles < 2 ^ 61 }
         ensures { IfOk result (λ course. IsHandled (trap_of machine.now time plan.now sends.old self.old) self.new [] sends.new course) }
     {
-        let mut out = Sends::new(alloc);
+        let mut out = sends.lend(alloc);
         let begins = self.busy.max(time);
         let busy = run_trap(plan, time, self.busy, machine, &mut out)?;
         send_all(busy, out, sends)?;
@@ -91,7 +92,7 @@ impl NodeState {
     }
 }
 
-/// Sends messages at a time.
+/// Sends messages at a time, and gives back the list that was lent for them.
 fn send_all(at: u64, mut out: Sends, sends: &mut SendList) -> Result<(), NoMemory>
     ensures { OnOk result (sends.new ≡ sends.old ++ map (sent_at at) out) }
 {
@@ -102,5 +103,6 @@ fn send_all(at: u64, mut out: Sends, sends: &mut SendList) -> Result<(), NoMemor
             msg: outgoing.msg,
         })?;
     }
+    sends.take_back(out);
     Ok(())
 }

@@ -5,7 +5,8 @@ ghost use Rattle.node.specs.Handled.{IsHandled, handled_with, stepped_with};
 ghost use Rattle.node.specs.React.{stamped, stamped_from, counted_step, counted_message, message_of, react_with, react_to_step, react_to_message};
 ghost use Rattle.node.specs.Sound.{IsNode, IsSendable, AreSendable, MayStamp};
 
-use crate::state::{Course, NodeState, Send, SendList};
+use crate::send_list::SendList;
+use crate::state::{Course, NodeState, Send};
 use std::alloc::Global;
 use target_cache::Line;
 use wt_network::stamp;
@@ -45,7 +46,7 @@ impl NodeState {
         self.count_step(key);
         let deed = self.step(machine, time, word, sends)?;
         if !self.traced {
-            return self.send_off(alloc, machine, sends, out);
+            return self.send_off(machine, sends, out);
         }
         self.end_traced_step(alloc, machine, key, pc, word, deed, sends, out)
     }
@@ -74,7 +75,7 @@ impl NodeState {
         self.count_message(key);
         let course = self.receive(alloc, machine, message, sends)?;
         if !self.traced {
-            return self.send_off(alloc, machine, sends, out);
+            return self.send_off(machine, sends, out);
         }
         let what = What::Message {
             msg: message.msg.copy(),
@@ -184,7 +185,7 @@ impl NodeState {
         ensures none_left { OnOk result (sends.new ≡ []) }
     {
         self.record(alloc, machine, key, what, course, sends)?;
-        self.send_off(alloc, machine, sends, out)
+        self.send_off(machine, sends, out)
     }
 
     /// Adds the record of an event to the log.
@@ -219,10 +220,9 @@ impl NodeState {
         })
     }
 
-    /// Stamps and counts the messages of an event, and adds them to `out`.
+    /// Stamps and counts the messages of an event, and moves them to `out`.
     fn send_off(
         &mut self,
-        alloc: Global,
         machine: &Machine,
         sends: &mut SendList,
         out: &mut StampedList,
@@ -237,14 +237,41 @@ impl NodeState {
         if sends.is_empty() {
             return Ok(());
         }
-        stamp_all(machine, self.number, self.counters.sent, sends, out)?;
+        let sequence = self.counters.sent;
         self.counters.sent += sends.len();
-        *sends = SendList::new(alloc);
-        Ok(())
+        send_stamped(machine, self.number, sequence, sends, out)
     }
 }
 
-/// Stamps messages, numbered from `sequence` on, and adds them to `out`.
+/// Stamps messages, numbered from `sequence` on, and moves them to `out`.
+fn send_stamped(
+    machine: &Machine,
+    from: u32,
+    sequence: u64,
+    sends: &mut SendList,
+    out: &mut StampedList,
+) -> Result<(), NoMemory>
+    requires number { from < machine.now.nodes }
+    requires fit { AreSendable machine.now sends.old }
+    requires room { sequence + length sends.old < 2 ^ 63 }
+    ensures sends { OnOk result (out.new ≡ out.old ++ stamped_from machine.now from sequence sends.old) }
+    ensures none_left { OnOk result (sends.new ≡ []) }
+{
+    let mut sequence = sequence;
+    while let Some(send) = sends.pop_first() {
+        out.push(Stamped {
+            time: stamp(machine, from, send.to, send.at),
+            to: send.to,
+            from,
+            sequence,
+            msg: send.msg,
+        })?;
+        sequence += 1;
+    }
+    Ok(())
+}
+
+/// Stamps copies of messages, numbered from `sequence` on, and adds them to `out`.
 fn stamp_all(
     machine: &Machine,
     from: u32,
@@ -265,7 +292,7 @@ fn stamp_all(
     Ok(())
 }
 
-/// Stamps a message.
+/// Stamps a copy of a message.
 fn stamp_one(machine: &Machine, from: u32, sequence: u64, send: &Send) -> Stamped
     requires number { from < machine.now.nodes }
     requires fits { IsSendable machine.now send.now }

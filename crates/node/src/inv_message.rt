@@ -4,7 +4,8 @@ ghost use Rattle.node.specs.Handled.{IsHandled, to_home};
 ghost use Rattle.node.specs.InvMessage.{inv_message_of, dirty_bytes};
 ghost use Rattle.node.specs.Sound.{IsNode};
 
-use crate::state::{Course, NodeState, SendList, send_home};
+use crate::send_list::SendList;
+use crate::state::{Course, NodeState, send_home};
 use target_cache::Line;
 use wt_params::{Machine, NoMemory};
 use wt_proto::{Block, Body};

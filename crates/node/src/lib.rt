@@ -16,6 +16,7 @@ mod node;
 mod output;
 mod private_access;
 mod processor;
+mod send_list;
 mod shared_access;
 mod start;
 mod state;

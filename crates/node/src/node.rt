@@ -9,7 +9,8 @@ ghost use Rattle.node.specs.Sound.{IsNode, WaitsForABlock};
 ghost use Rattle.node.specs.Start.{start_node};
 ghost use Rattle.node.specs.State.{next_key, next_step_of};
 
-use crate::state::{NodeState, SendList};
+use crate::send_list::SendList;
+use crate::state::NodeState;
 use dir1sw::Directory;
 use image_loader::Loaded;
 use priv_mem::PrivMem;

@@ -3,8 +3,9 @@ ghost use Rattle.node.specs.Handled.{IsStepped};
 ghost use Rattle.node.specs.PrivateAccess.{load_from, store_to};
 ghost use Rattle.node.specs.Sound.{IsNode};
 
+use crate::send_list::SendList;
 use crate::shared_access::stored;
-use crate::state::{NodeState, SendList};
+use crate::state::NodeState;
 use priv_mem::MemFault;
 use rv_decode::{LoadOp, StoreOp};
 use rv_exec::{load_width, store_width, widen};

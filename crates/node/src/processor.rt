@@ -3,7 +3,8 @@ ghost use Rattle.node.specs.Handled.{IsStepped};
 ghost use Rattle.node.specs.Processor.{fetch_of, execute_of, step_by};
 ghost use Rattle.node.specs.Sound.{IsNode};
 
-use crate::state::{NodeState, SendList};
+use crate::send_list::SendList;
+use crate::state::NodeState;
 use rv_decode::decode;
 use rv_exec::{Effect, execute};
 use wt_params::{Machine, NoMemory};

@@ -7,7 +7,8 @@ ghost use Rattle.node.specs.Handled.{IsStepped};
 ghost use Rattle.node.specs.SharedAccess.{missed, upgraded, shared_load_of, shared_store_of, stored_value, offset_of};
 ghost use Rattle.node.specs.Sound.{IsNode};
 
-use crate::state::{NodeState, SendList, send_home};
+use crate::send_list::SendList;
+use crate::state::{NodeState, send_home};
 use block_tags::Tag;
 use rv_decode::{LoadOp, StoreOp};
 use rv_exec::{load_width, store_width, widen};

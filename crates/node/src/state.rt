@@ -4,13 +4,14 @@ ghost use Rattle.rv_exec.specs.Meaning.{address_after};
 ghost use Rattle.node.specs.Handled.{moved_on, stopped, to_home, message_to, loaded_into, stored_at};
 
 use crate::output::Output;
+use crate::send_list::SendList;
 use dir1sw::Directory;
 use priv_mem::PrivMem;
 use rv_exec::Regs;
 use target_barrier::BarrierUnit;
 use target_cache::Cache;
 use wt_params::{Machine, NoMemory};
-use wt_proto::{Body, Cause, Fifo, Key, Mode, Msg};
+use wt_proto::{Body, Cause, Key, Mode, Msg};
 use wt_stats::Counters;
 use wt_trace::{Deed, NodeLog};
 
@@ -49,8 +50,6 @@ pub struct Send {
     pub to: u32,
     pub msg: Msg,
 }
-
-pub type SendList = Fifo<Send>;
 
 /// What an event was, beside what it left and sent.
 #[derive(Clone, Copy, Debug)]
@@ -117,6 +116,7 @@ impl NodeState {
 }
 
 /// Sends a message to the home of a block.
+#[inline(always)]
 pub fn send_home(
     machine: &Machine,
     at: u64,
@@ -130,6 +130,7 @@ pub fn send_home(
 }
 
 /// Sends a message about a block to a node.
+#[inline(always)]
 pub fn send_to(
     at: u64,
     to: u32,

@@ -8,3 +8,4 @@ pub mod Free
 pub mod Accepted
 pub mod SoleLemmas
 pub mod AtStart
+pub mod Tails

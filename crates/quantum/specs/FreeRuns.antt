@@ -1,5 +1,5 @@
 -- A node that runs on its own up to a time. Own.
-use Rattle.std.specs.Prelude.{◌≡◌, ℕ, ◌+◌, ◌-◌, ◌*◌, ◌<◌, ◌≤◌, ⊤, List, [], ◌∷◌, length, map}
+use Rattle.std.specs.Prelude.{◌≡◌, ℕ, ◌+◌, ◌-◌, ◌*◌, ◌<◌, ◌≤◌, ⊤, List, [], ◌∷◌, ◌++◌, length, map}
 use Rattle.wt_proto.specs.declared.message.Msg.{Msg}
 use Rattle.wt_proto.specs.declared.message.Stamped.{Stamped}
 use Rattle.discrete_events.specs.Core.{Station, run_to as run_of}
@@ -38,3 +38,10 @@ pub record IsHandedOut (until : ℕ) (before after : StationModel) (outs : List 
 abbrev pub IsFree : ℕ → ℕ → NodeState → NodeState → List Stamped → Type 0
 IsFree steps_before steps_after before after outs =
     steps_after ≤ steps_before + 3 * handled_between before after + 2 * (sent_between before after - length outs) + 2
+
+-- What a run adds to a list of messages: exactly what it hands out, within its bound.
+pub record AddsOuts (until : ℕ) (before after : StationModel) (list_before list_after : List Stamped) (steps_before steps_after : ℕ) : Type 0 where
+  pub outs : List Stamped
+  pub added : list_after ≡ list_before ++ outs
+  pub handed : IsHandedOut until before after outs
+  pub free : IsFree steps_before steps_after before.node.state after.node.state outs

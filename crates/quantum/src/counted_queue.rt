@@ -2,7 +2,7 @@ ghost use Rattle.std.specs.Prelude.{◌≡◌, ◌≤◌, ◌+◌, [], ◌∷◌
 ghost use Rattle.wt_proto.specs.Messages.{key_of};
 ghost use Rattle.event_queue.specs.Rising.{IsRising, HasNoKey, insert_of, peek_of};
 
-use event_queue::{Queue, Steps};
+use event_queue::{Letter, Queue, Steps};
 use std::alloc::Global;
 use std::marker::Model;
 use std::sync::ledger::Ledger;
@@ -80,19 +80,27 @@ impl CountedQueue {
         self.queue.peek(steps)
     }
 
-    /// Takes the message of the least key out. None exactly where there is no message.
+    /// Takes the message of the least key out, in its place. None exactly where there is no message.
     #[inline(always)]
-    pub fn pop<L: Ledger>(&mut self, steps: &mut Steps<L>) -> Option<Stamped>
+    pub fn take<L: Ledger>(&mut self, steps: &mut Steps<L>) -> Option<Letter>
         ensures value { MatchOption result ((self.old ≡ []) × (self.new ≡ [])) (λ message. self.old ≡ message ∷ self.new) }
         ensures rising { IsRising self.new }
         ensures step { steps.new ≡ steps.old + 1 }
     {
-        match self.queue.pop(steps) {
+        match self.queue.take(steps) {
             None => None,
-            Some(message) => {
+            Some(letter) => {
                 self.count -= 1;
-                Some(message)
+                Some(letter)
             }
         }
+    }
+
+    /// Gives the place of a message that was handled back, to be used again.
+    #[inline(always)]
+    pub fn give_back(&mut self, letter: Letter)
+        ensures { self.new ≡ self.old }
+    {
+        self.queue.give_back(letter);
     }
 }

@@ -1,9 +1,9 @@
-ghost use Rattle.std.specs.Prelude.{◌≡◌, ℕ, ◌<◌, ◌≤◌, ◌+◌, [], false, IfOk, OnOk, Some};
+ghost use Rattle.std.specs.Prelude.{◌≡◌, ℕ, ◌<◌, ◌≤◌, ◌+◌, [], false, length, take, drop, IfOk, OnOk, Some};
 ghost use Rattle.event_queue.specs.Rising.{IsRising};
 ghost use Rattle.image_loader.specs.Images.{IsFor};
 ghost use Rattle.node.specs.Start.{start_node};
 ghost use Rattle.quantum.specs.Sole.{HasEnded, IsSole};
-ghost use Rattle.quantum.specs.FreeRuns.{IsFree, IsHandedOut, run_to_of};
+ghost use Rattle.quantum.specs.FreeRuns.{AddsOuts, run_to_of};
 ghost use Rattle.quantum.specs.Sites.{IsLookedAt, IsSite, IsTurn, Handles, HandsOut, MayHandOut, before_of, first_time_of, is_message_of, least_time_at, run_up_to};
 ghost use Rattle.quantum.specs.Stations.{station_of};
 
@@ -142,89 +142,97 @@ impl Site {
         ensures handled { OnOk result (Handles until self.old self.new Turn.Message sends.old sends.new steps.old steps.new) }
         ensures machine { self.new.node.machine ≡ self.old.node.machine }
     {
-        match self.queue.pop(steps) {
+        match self.queue.take(steps) {
             None => Ok(()),
-            Some(message) => self.node.handle_message(&message, sends),
+            Some(letter) => {
+                let result = self.node.handle_message(letter.message(), sends);
+                self.queue.give_back(letter);
+                result
+            }
         }
     }
 
-    /// Puts the messages that the node has sent to itself among those that wait, and hands out the others. Answers
-    /// whether there were some to itself.
+    /// Of the messages from a place on, those to the node itself are put among those that wait, and the others stay.
+    /// Answers whether there were some to itself.
     fn hand_out<L: Ledger>(
         &mut self,
-        sends: &mut StampedList,
+        from: u64,
         outs: &mut StampedList,
         steps: &mut Steps<L>,
     ) -> Result<bool, NoMemory>
-        requires { MayHandOut self.old sends.old }
-        ensures parts { OnOk result (HandsOut self.old self.new sends.old outs.old outs.new steps.old steps.new) }
+        requires within { from ≤ length outs.old }
+        requires may { MayHandOut self.old (drop from outs.old) }
+        ensures parts { OnOk result (HandsOut self.old self.new (drop from outs.old) (take from outs.old) outs.new steps.old steps.new) }
         ensures looked { IfOk result (λ looked. IsLookedAt looked self.old self.new steps.old steps.new) }
-        ensures none_left { OnOk result (sends.new ≡ []) }
         ensures node { self.new.node ≡ self.old.node }
     {
-        if sends.is_empty() {
+        if outs.len() == from {
             return Ok(false);
         }
-        self.hand_out_all(sends, outs, steps)
+        self.hand_out_all(from, outs, steps)
     }
 
     /// The same, also where there are none.
     #[inline(never)]
     fn hand_out_all<L: Ledger>(
         &mut self,
-        sends: &mut StampedList,
+        from: u64,
         outs: &mut StampedList,
         steps: &mut Steps<L>,
     ) -> Result<bool, NoMemory>
-        requires { MayHandOut self.old sends.old }
-        ensures parts { OnOk result (HandsOut self.old self.new sends.old outs.old outs.new steps.old steps.new) }
+        requires within { from ≤ length outs.old }
+        requires may { MayHandOut self.old (drop from outs.old) }
+        ensures parts { OnOk result (HandsOut self.old self.new (drop from outs.old) (take from outs.old) outs.new steps.old steps.new) }
         ensures looked { IfOk result (λ looked. IsLookedAt looked self.old self.new steps.old steps.new) }
-        ensures none_left { OnOk result (sends.new ≡ []) }
         ensures node { self.new.node ≡ self.old.node }
     {
         let mut own = false;
+        let mut place = from;
+        let count = outs.len();
         let number = self.node.number();
-        while let Some(message) = sends.pop_first() {
+        while let Some(message) = outs.get(place) {
             if message.to == number {
-                match self.queue.insert(message, steps) {
-                    Ok(()) => own = true,
-                    Err(_back) => return Err(NoMemory),
+                match outs.remove(place) {
+                    None => return Ok(own),
+                    Some(taken) => match self.queue.insert(taken, steps) {
+                        Ok(()) => own = true,
+                        Err(_back) => return Err(NoMemory),
+                    },
                 }
             } else {
-                outs.push(message)?;
+                prove!(place < count);
+                place += 1;
             }
         }
         Ok(own)
     }
 
-    /// Handles exactly the node's events before a time. The messages to other nodes are handed out. The queue is looked at
-    /// when the run begins, after each message, and after each event that sends to the node itself.
+    /// Handles exactly the node's events before a time. The messages to other nodes are put at the end of a list. The
+    /// queue is looked at when the run begins, after each message, and after each event that sends to the node itself.
     pub fn run_to<L: Ledger>(
         &mut self,
-        alloc: Global,
         until: u64,
+        outs: &mut StampedList,
         steps: &mut Steps<L>,
-    ) -> Result<StampedList, NoMemory>
+    ) -> Result<(), NoMemory>
         requires budget { until ≤ self.old.node.machine.budget }
         requires site { IsSite until self.old }
         ensures ran { (past : ℕ) → OnOk result (station_of (run_up_to until self.new) ≡ (run_to_of until (run_up_to past self.old)).0) }
-        ensures outs { (past : ℕ) → IfOk result (λ outs. IsHandedOut until (run_up_to past self.old) (run_up_to until self.new) outs) }
+        ensures outs { (past : ℕ) → OnOk result (AddsOuts until (run_up_to past self.old) (run_up_to until self.new) outs.old outs.new steps.old steps.new) }
         ensures site { OnOk result (IsSite until self.new) }
         ensures rising { OnOk result (IsRising self.new.queue) }
         ensures machine { self.new.node.machine ≡ self.old.node.machine }
-        ensures free { IfOk result (λ outs. IsFree steps.old steps.new self.old.node.state self.new.node.state outs) }
     {
-        let mut outs = StampedList::new(alloc);
-        let mut sends = StampedList::new(alloc);
         let mut first = self.first_time(steps);
         while let Some(turn) = self.turn(first, until) {
-            self.handle(turn, until, &mut sends, steps)?;
-            let own = self.hand_out(&mut sends, &mut outs, steps)?;
+            let from = outs.len();
+            self.handle(turn, until, outs, steps)?;
+            let own = self.hand_out(from, outs, steps)?;
             if own || turn.is_message() {
                 first = self.first_time(steps);
             }
         }
-        Ok(outs)
+        Ok(())
     }
 
     /// Handles all events of a node that is alone in its machine, and counts the quanta that they begin. Nothing is
@@ -244,11 +252,11 @@ impl Site {
     {
         let budget = self.node.machine().budget();
         let mut outs = StampedList::new(alloc);
-        let mut sends = StampedList::new(alloc);
         let mut first = self.first_time(steps);
         while let Some(turn) = self.turn(first, budget) {
-            self.handle(turn, budget, &mut sends, steps)?;
-            let own = self.hand_out(&mut sends, &mut outs, steps)?;
+            let from = outs.len();
+            self.handle(turn, budget, &mut outs, steps)?;
+            let own = self.hand_out(from, &mut outs, steps)?;
             quanta.count_event(self.node.machine(), self.node.last());
             if turn.is_message() || own {
                 first = self.first_time(steps);

@@ -2,7 +2,7 @@ ghost use Rattle.std.specs.Prelude.{◌≡◌, ◌<◌, ◌≤◌, ◌+◌, true
 ghost use Rattle.std.specs.FinMap.{len};
 ghost use Rattle.image_loader.specs.Images.{IsFor};
 ghost use Rattle.quantum.specs.Sole.{HasEnded, IsSole};
-ghost use Rattle.quantum.specs.FreeRuns.{IsFree, IsHandedOut, run_to_of};
+ghost use Rattle.quantum.specs.FreeRuns.{AddsOuts, IsFree, IsHandedOut, run_to_of};
 ghost use Rattle.quantum.specs.Stations.{HasNoPast, IsLive, IsUnbroken, MayAccept, accept_of, least_time_of, machine_of, station_at_start, station_of};
 
 use crate::quanta::Quanta;
@@ -115,13 +115,33 @@ impl Station {
         ensures broken { OnErr result (self.new.broken ≡ true) }
         ensures free { IfOk result (λ outs. IsFree steps.old steps.new self.old.node.state self.new.node.state outs) }
     {
+        let mut outs = Outs::new(self.alloc);
+        self.run_into(until, &mut outs, steps)?;
+        Ok(outs)
+    }
+
+    /// The same, with the messages to other nodes put at the end of a list.
+    pub fn run_into<L: Ledger>(
+        &mut self,
+        until: u64,
+        outs: &mut Outs,
+        steps: &mut Steps<L>,
+    ) -> Result<(), NoMemory>
+        requires budget { until ≤ (machine_of self.old).budget }
+        requires forward { self.old.until ≤ until }
+        ensures ran { OnOk result (station_of self.new ≡ (run_to_of until self.old).0) }
+        ensures outs { OnOk result (AddsOuts until self.old self.new outs.old outs.new steps.old steps.new) }
+        ensures live { OnOk result (IsUnbroken self.old × IsUnbroken self.new × IsLive self.new) }
+        ensures machine { machine_of self.new ≡ machine_of self.old }
+        ensures broken { OnErr result (self.new.broken ≡ true) }
+    {
         if self.broken {
             return Err(NoMemory);
         }
-        match self.site.run_to(self.alloc, until, steps) {
-            Ok(outs) => {
+        match self.site.run_to(until, outs, steps) {
+            Ok(()) => {
                 self.until = until;
-                Ok(outs)
+                Ok(())
             }
             Err(NoMemory) => {
                 self.broken = true;

@@ -61,6 +61,7 @@ fn invalidate_others(block: u32, spared: u32, nodes: u32, out: &mut Sends) -> Re
 }
 
 /// One Inv to a node.
+#[inline(always)]
 fn invalidate_one(block: u32, node: u32, out: &mut Sends) -> Result<(), NoMemory>
     ensures ok { OnOk result (out.new ≡ out.old ++ invalidation block node ∷ []) }
 {

@@ -1,14 +1,14 @@
-ghost use Rattle.std.specs.Prelude.{◌≡◌, [], ◌∷◌, ◌++◌, ◌↔◌, length, IsTrue, OnOk, OnErr, MatchOption, slice_get};
+ghost use Rattle.std.specs.Prelude.{◌≡◌, ◌<◌, [], ◌∷◌, ◌++◌, ◌↔◌, length, IsTrue, IsSome, IfSome, IfNone, OnSome, OnOk, OnErr, MatchOption, slice_get, slice_index_or};
+ghost use Rattle.std.specs.List.{remove};
 ghost use Rattle.std.specs.Option.{option_copied};
 
 use std::alloc::Global;
 use std::collections::VecDeque;
 use std::marker::Model;
-use std::mem;
 use wt_params::NoMemory;
 
-/// A list that grows at its end and is taken from at its front. Contracts see it as the list of its items. An empty
-/// one holds no memory.
+/// A list that grows at its end and is taken from at its front. Contracts see it as the list of its items. A new one
+/// holds no memory, and what an item took is kept for the next one.
 #[derive(Debug, Drop)]
 pub struct Fifo<T> {
     items: VecDeque<T>,
@@ -40,6 +40,7 @@ impl<T> Fifo<T> {
     }
 
     /// Whether there are none.
+    #[inline(always)]
     pub fn is_empty(&self) -> bool
         ensures { IsTrue result ↔ (self.now ≡ []) }
     {
@@ -54,6 +55,7 @@ impl<T> Fifo<T> {
     }
 
     /// Puts an item at the end. Where memory is refused, all stays as it was.
+    #[inline(always)]
     pub fn push(&mut self, item: T) -> Result<(), NoMemory>
     where
         T: Drop,
@@ -64,16 +66,30 @@ impl<T> Fifo<T> {
         Ok(())
     }
 
-    /// Takes the first item out. None exactly where there is none. A list that has become empty gives its memory
-    /// back.
+    /// Takes an item out by its place, counted from 0. None exactly from the end on, where nothing changes.
+    pub fn remove(&mut self, i: u64) -> Option<T>
+        ensures there { IsSome result ↔ (i < length self.old) }
+        ensures value { IfSome result (λ item. item ≡ slice_index_or self.old i item) }
+        ensures rest { OnSome result (self.new ≡ remove self.old i) }
+        ensures none { IfNone result (self.new ≡ self.old) }
+    {
+        self.items.remove(i as usize)
+    }
+
+    /// Takes the first item out. None exactly where there is none.
+    #[inline(always)]
     pub fn pop_first(&mut self) -> Option<T>
         ensures { MatchOption result ((self.old ≡ []) × (self.new ≡ [])) (λ item. self.old ≡ item ∷ self.new) }
     {
-        let first = self.items.pop_front();
-        if self.items.is_empty() {
-            let unused = VecDeque::new(*self.items.allocator());
-            mem::replace(&mut self.items, unused).destroy_empty();
-        }
-        first
+        self.items.pop_front()
+    }
+
+    /// Takes all items out.
+    pub fn clear(&mut self)
+    where
+        T: Drop,
+        ensures { self.new ≡ [] }
+    {
+        self.items.clear();
     }
 }

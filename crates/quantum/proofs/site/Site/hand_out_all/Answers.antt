@@ -1,17 +1,65 @@
-use Rattle.std.proofs.Common.{sym, subst, refl, true}
-use Rattle.quantum.proofs.HandOut.{IsHandingOut, is_new, handed_own}
+use Rattle.std.proofs.Common.{◌≡◌, ◌<◌, Some, None, sym, ap, ◌∙◌, subst, refl, true, length, drop, take, arith}
+use Rattle.std.specs.Prelude.{slice_get}
+use Rattle.std.specs.Option.{option_copied}
+use Rattle.std.proofs.lemmas.Option.{get_or_from_slice_get, slice_get_within}
+use Rattle.wt_proto.specs.declared.message.Stamped.{Stamped}
+use Rattle.wt_proto.specs.Messages.{key_of}
+use Rattle.event_queue.specs.Rising.{HasNoKey, insert_of}
+use Rattle.quantum.specs.declared.site.Site.{Site}
+use Rattle.quantum.proofs.HandOut.{IsHandingOut, at_first}
+use Rattle.quantum.proofs.Tails.{all_handed_out, length_removed, new_at, other_at, own_at, past_end, unlike}
 use Rattle.quantum.proofs.site.Site.hand_out_all.Goals as goal
+
+pub loop-message-init : goal.loop-message-init
+loop-message-init g c = record {
+  within = c.requires.within;
+  few = omega (arith, c.len-count.ensures);
+  so_far = at_first c.args.self.now c.number-number.result (drop c.args.from c.args.outs.now) (take c.args.from c.args.outs.now) c.args.steps.now c.number-number.ensures c.requires.may;
+}
 
 pub insert-requires : goal.insert-requires
 insert-requires g c =
-    let now = c.loop-message.self in
-    let so_far = subst (λ ms. IsHandingOut c.args.self.now now c.number-number.result c.args.sends.now ms c.args.outs.now c.loop-message.outs c.loop-message.own c.args.steps.now c.loop-message.steps) c.in-Some.ensures c.loop-message.invariant in
-    record { new_key = is_new c.args.self.now now now c.number-number.result c.args.sends.now c.args.outs.now c.loop-message.outs c.in-Some.message c.pop_first.new.self c.loop-message.own c.args.steps.now c.loop-message.steps so_far }
+    let is : slice_get c.loop-message.outs c.loop-message.place ≡ Some c.in-Some.message.now = sym c.get.ensures ∙ ap option_copied c.in-Some.is in
+    let same : c.in-Some-remove.taken ≡ c.in-Some.message.now = c.in-Some-remove.ensures.value ∙ get_or_from_slice_get c.loop-message.outs c.loop-message.place c.in-Some.message.now c.in-Some-remove.taken is in
+    record {
+      new_key = subst (λ (m : Stamped). HasNoKey (key_of m) c.loop-message.self.queue) (sym same)
+          (new_at c.args.self.now c.loop-message.self c.number-number.result (drop c.args.from c.args.outs.now) (take c.args.from c.args.outs.now) c.loop-message.outs c.loop-message.place c.in-Some.message.now c.loop-message.own c.args.steps.now c.loop-message.steps is c.loop-message.invariant.so_far);
+    }
 
 pub loop-message-preserved-in-Ok : goal.loop-message-preserved-in-Ok
 loop-message-preserved-in-Ok g c =
-    let now = c.loop-message.self in
-    let so_far = subst (λ ms. IsHandingOut c.args.self.now now c.number-number.result c.args.sends.now ms c.args.outs.now c.loop-message.outs c.loop-message.own c.args.steps.now c.loop-message.steps) c.in-Some.ensures c.loop-message.invariant in
-    subst (λ steps. IsHandingOut c.args.self.now (record { node = now.node; queue = c.insert.new.self }) c.number-number.result c.args.sends.now c.pop_first.new.self c.args.outs.now c.loop-message.outs true c.args.steps.now steps) (sym c.in-Ok.ensures.step)
-    (handed_own c.args.self.now now (record { node = now.node; queue = c.insert.new.self }) c.number-number.result c.args.sends.now c.args.outs.now c.loop-message.outs c.in-Some.message c.pop_first.new.self c.loop-message.own c.args.steps.now c.loop-message.steps so_far
-    c.if-message-number.true refl c.in-Ok.ensures.ok c.insert.ensures.rising)
+    let is : slice_get c.loop-message.outs c.loop-message.place ≡ Some c.in-Some.message.now = sym c.get.ensures ∙ ap option_copied c.in-Some.is in
+    let same : c.in-Some-remove.taken ≡ c.in-Some.message.now = c.in-Some-remove.ensures.value ∙ get_or_from_slice_get c.loop-message.outs c.loop-message.place c.in-Some.message.now c.in-Some-remove.taken is in
+    let within = slice_get_within c.loop-message.outs c.loop-message.place c.in-Some.message.now is in
+    let shorter = ap length c.in-Some-remove.ensures.rest in
+    let one_less = length_removed c.loop-message.outs c.loop-message.place within in
+    let few = c.loop-message.invariant.few in
+    let after : Site = (record { node = c.loop-message.self.node; queue = c.insert.new.self }) in
+    record {
+      within = omega (arith, within, shorter, one_less);
+      few = omega (arith, few, shorter, one_less);
+      so_far =
+          subst (λ steps. IsHandingOut c.args.self.now after c.number-number.result (drop c.args.from c.args.outs.now) (drop c.loop-message.place c.remove.new.self) (take c.args.from c.args.outs.now) (take c.loop-message.place c.remove.new.self) true c.args.steps.now steps) (sym c.in-Ok.ensures.step)
+          (own_at c.args.self.now c.loop-message.self c.number-number.result (drop c.args.from c.args.outs.now) (take c.args.from c.args.outs.now) c.loop-message.outs c.loop-message.place c.in-Some.message.now c.loop-message.own c.args.steps.now c.loop-message.steps is c.loop-message.invariant.so_far after c.remove.new.self c.in-Some-remove.ensures.rest c.if-message-number.true refl
+          (subst (λ (m : Stamped). c.insert.new.self ≡ insert_of m c.loop-message.self.queue) same c.in-Ok.ensures.ok) c.insert.ensures.rising);
+    }
+
+pub loop-message-smaller : goal.loop-message-smaller
+loop-message-smaller g c =
+    let is : slice_get c.loop-message.outs c.loop-message.place ≡ Some c.in-Some.message.now = sym c.get.ensures ∙ ap option_copied c.in-Some.is in
+    let within = slice_get_within c.loop-message.outs c.loop-message.place c.in-Some.message.now is in
+    omega (arith, within)
+
+pub loop-message-preserved : goal.loop-message-preserved
+loop-message-preserved g c =
+    let is : slice_get c.loop-message.outs c.loop-message.place ≡ Some c.in-Some.message.now = sym c.get.ensures ∙ ap option_copied c.in-Some.is in
+    let within = slice_get_within c.loop-message.outs c.loop-message.place c.in-Some.message.now is in
+    record {
+      within = omega (arith, within);
+      few = c.loop-message.invariant.few;
+      so_far = other_at c.args.self.now c.loop-message.self c.number-number.result (drop c.args.from c.args.outs.now) (take c.args.from c.args.outs.now) c.loop-message.outs c.loop-message.place c.in-Some.message.now c.loop-message.own c.args.steps.now c.loop-message.steps is c.loop-message.invariant.so_far (unlike c.in-Some.message.now.to c.number-number.result c.if-message-number.false);
+    }
+
+pub returns-clause-parts : goal.returns-clause-parts
+returns-clause-parts g c =
+    all_handed_out c.args.self.now c.loop-message.self c.number-number.result (drop c.args.from c.args.outs.now) (take c.args.from c.args.outs.now) c.loop-message.outs c.loop-message.place c.loop-message.own c.args.steps.now c.loop-message.steps (past_end c.loop-message.outs c.loop-message.place (sym c.get.ensures ∙ ap option_copied c.in_default.is)) c.loop-message.invariant.so_far
