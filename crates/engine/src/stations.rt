@@ -1,10 +1,10 @@
-ghost use Rattle.std.specs.Prelude.{◌≡◌, ◌++◌, All, IfOk, OnOk};
+ghost use Rattle.std.specs.Prelude.{◌≡◌, All, IfOk, OnOk};
 ghost use Rattle.quantum.specs.Stations.{IsUnbroken};
 ghost use Rattle.engine.specs.Sole.{AreSole, HaveEnded};
 ghost use Rattle.engine.specs.Quantum.{HaveRun, IsGood, MayDeliver, MayRun, delivered, earliest_of, sooner};
 
 use event_queue::Steps;
-use quantum::{Outs, Quanta, Station};
+use quantum::{Quanta, Station};
 use std::alloc::Global;
 use std::sync::ledger::Ledger;
 use wt_params::NoMemory;
@@ -45,24 +45,9 @@ pub fn run_all<L: Ledger>(
 {
     let mut letters = StampedList::new(alloc);
     for station in stations.iter_mut() {
-        let outs = station.run_to(until, steps)?;
-        append(&mut letters, outs)?;
+        station.run_into(until, &mut letters, steps)?;
     }
     Ok(letters)
-}
-
-/// Puts messages at the end of a list.
-pub fn append(letters: &mut StampedList, outs: Outs) -> Result<(), NoMemory>
-    ensures { OnOk result (letters.new ≡ letters.old ++ outs) }
-{
-    if outs.is_empty() {
-        return Ok(());
-    }
-    let mut outs = outs;
-    while let Some(message) = outs.pop_first() {
-        letters.push(message)?;
-    }
-    Ok(())
 }
 
 /// Gives each message to the station that it names.

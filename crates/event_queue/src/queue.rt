@@ -1,4 +1,4 @@
-ghost use Rattle.std.specs.Prelude.{◌≡◌, ◌+◌, [], ◌∷◌, IfErr, OnOk, OnErr, MatchOption};
+ghost use Rattle.std.specs.Prelude.{◌≡◌, ◌+◌, [], ◌∷◌, IfErr, IfOk, OnOk, OnErr, MatchOption};
 ghost use Rattle.wt_proto.specs.Messages.{key_of};
 ghost use Rattle.event_queue.specs.Rising.{IsRising, HasNoKey, insert_of, peek_of};
 ghost use Rattle.event_queue.specs.Merging.{is_sooner};
@@ -9,15 +9,18 @@ use crate::steps::Steps;
 use std::alloc::Global;
 use std::marker::Model;
 use std::sync::ledger::Ledger;
-use wt_proto::{Back, Key, Stamped};
+use wt_proto::{Back, Key, Letter, Stamped};
 
 /// Messages, the one of the least key first. No two have the same key. Contracts see them as a list.
 #[derive(Debug, Drop)]
 pub struct Queue {
+    alloc: Global,
     /// The messages of the cycles that are near.
     ring: Ring,
     /// All others. A message stays where it was put.
     far: Sorted,
+    /// The places of messages that are gone, to be used again.
+    used: Vec<Letter>,
 }
 
 impl Model for Queue {
@@ -38,8 +41,10 @@ impl Queue {
         ensures { result ≡ [] }
     {
         Queue {
+            alloc,
             ring: Ring::new(alloc),
             far: Sorted::new(alloc),
+            used: Vec::new(alloc),
         }
     }
 
@@ -55,7 +60,43 @@ impl Queue {
         ensures step { steps.new ≡ steps.old + 1 }
     {
         steps.tick();
-        if self.ring.is_near(message.time) {
+        let letter = self.write(message)?;
+        match self.put(letter) {
+            Ok(()) => Ok(()),
+            Err(letter) => Err(Back {
+                message: letter.into_message(),
+            }),
+        }
+    }
+
+    /// Writes a message into a place that was used, or into a new one.
+    #[inline(always)]
+    fn write(&mut self, message: Stamped) -> Result<Letter, Back>
+        ensures ok { IfOk result (λ letter. letter ≡ message) }
+        ensures back { IfErr result (λ back. back.message ≡ message) }
+        ensures same { self.new ≡ self.old }
+        ensures rising { IsRising self.new }
+    {
+        match self.used.pop() {
+            None => Letter::new(self.alloc, message),
+            Some(used) => {
+                let mut letter = used;
+                letter.rewrite(message);
+                Ok(letter)
+            }
+        }
+    }
+
+    /// Puts a message that has its place among the others by its key.
+    #[inline(always)]
+    fn put(&mut self, message: Letter) -> Result<(), Letter>
+        requires new_key { HasNoKey (key_of message) self.old }
+        ensures ok { OnOk result (self.new ≡ insert_of message self.old) }
+        ensures back { IfErr result (λ back. back ≡ message) }
+        ensures err { OnErr result (self.new ≡ self.old) }
+        ensures rising { IsRising self.new }
+    {
+        if self.ring.is_near(message.message().time) {
             self.ring.insert(message)
         } else {
             self.far.insert(message)
@@ -82,12 +123,34 @@ impl Queue {
         ensures rising { IsRising self.new }
         ensures step { steps.new ≡ steps.old + 1 }
     {
+        match self.take(steps) {
+            None => None,
+            Some(letter) => Some(letter.into_message()),
+        }
+    }
+
+    /// The same in the message's place, which is to be given back.
+    #[inline(always)]
+    pub fn take<L: Ledger>(&mut self, steps: &mut Steps<L>) -> Option<Letter>
+        ensures value { MatchOption result ((self.old ≡ []) × (self.new ≡ [])) (λ message. self.old ≡ message ∷ self.new) }
+        ensures rising { IsRising self.new }
+        ensures step { steps.new ≡ steps.old + 1 }
+    {
         steps.tick();
         if is_sooner(self.ring.peek(), self.far.peek()) {
             self.ring.pop()
         } else {
             self.far.pop()
         }
+    }
+
+    /// Keeps the place of a message that is gone, to be used again.
+    #[inline(always)]
+    pub fn give_back(&mut self, letter: Letter)
+        ensures same { self.new ≡ self.old }
+        ensures rising { IsRising self.new }
+    {
+        let _ = self.used.push(letter);
     }
 }
 

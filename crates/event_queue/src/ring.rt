@@ -7,7 +7,7 @@ use crate::occupied::CYCLES;
 use crate::slots::Slots;
 use std::alloc::Global;
 use std::marker::Model;
-use wt_proto::{Back, Key, Stamped};
+use wt_proto::{Key, Letter};
 
 /// Messages of 256 cycles in a row. The first of these cycles is the base: it changes only where there are no messages.
 #[derive(Debug, Drop)]
@@ -52,16 +52,17 @@ impl Ring {
     /// Puts a message in its place by its key. Where memory is refused, the message comes back and the others stay as
     /// they were.
     #[inline(always)]
-    pub fn insert(&mut self, message: Stamped) -> Result<(), Back>
+    pub fn insert(&mut self, message: Letter) -> Result<(), Letter>
         requires near { IsNear self.old message.time }
         requires new_key { HasNoKey (key_of message) self.old.messages }
         ensures ok { OnOk result (self.new.messages ≡ insert_of message self.old.messages) }
-        ensures back { IfErr result (λ back. back.message ≡ message) }
+        ensures back { IfErr result (λ back. back ≡ message) }
         ensures err { OnErr result (self.new.messages ≡ self.old.messages) }
         ensures rising { IsRising self.new.messages }
     {
-        let base = self.base_for(message.time);
-        let place = (message.time - base) as usize;
+        let time = message.message().time;
+        let base = self.base_for(time);
+        let place = (time - base) as usize;
         self.base = base;
         self.slots.put(place, message)
     }
@@ -94,7 +95,7 @@ impl Ring {
 
     /// Takes the message of the least key out. None exactly where there is no message.
     #[inline(always)]
-    pub fn pop(&mut self) -> Option<Stamped>
+    pub fn pop(&mut self) -> Option<Letter>
         ensures value { MatchOption result ((self.old.messages ≡ []) × (self.new.messages ≡ [])) (λ message. self.old.messages ≡ message ∷ self.new.messages) }
         ensures rising { IsRising self.new.messages }
     {

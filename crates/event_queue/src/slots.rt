@@ -7,7 +7,7 @@ use crate::occupied::{CYCLES, Occupied};
 use crate::sorted::Sorted;
 use std::alloc::{AllocError, Global};
 use std::marker::Model;
-use wt_proto::{Back, Key, Stamped};
+use wt_proto::{Key, Letter};
 
 /// A row of sorted messages for each of 256 places. Contracts see the list of the rows.
 #[derive(Debug, Drop)]
@@ -44,16 +44,16 @@ impl Slots {
     /// Puts a message into the row of a place. Where memory is refused, the message comes back and the rows stay as they
     /// were.
     #[inline(always)]
-    pub fn put(&mut self, place: usize, message: Stamped) -> Result<(), Back>
+    pub fn put(&mut self, place: usize, message: Letter) -> Result<(), Letter>
         requires within { place < CYCLES }
         requires new_key { HasNoKey (key_of message) (slice_index_or self.old place []) }
         ensures ok { OnOk result (self.new ≡ slice_set self.old place (insert_of message (slice_index_or self.old place []))) }
-        ensures back { IfErr result (λ back. back.message ≡ message) }
+        ensures back { IfErr result (λ back. back ≡ message) }
         ensures err { OnErr result (self.new ≡ self.old) }
     {
         match make(&mut self.rows) {
             Ok(()) => {}
-            Err(AllocError) => return Err(Back { message }),
+            Err(AllocError) => return Err(message),
         }
         let row = &mut self.rows[place];
         match row.insert(message) {
@@ -86,7 +86,7 @@ impl Slots {
 
     /// Takes the first message of a place out.
     #[inline(always)]
-    pub fn take(&mut self, place: usize) -> Option<Stamped>
+    pub fn take(&mut self, place: usize) -> Option<Letter>
         requires { place < CYCLES }
         ensures rows { self.new ≡ slice_set self.old place (slice_index_or self.new place []) }
         ensures value { MatchOption result ((slice_index_or self.old place [] ≡ []) × (self.new ≡ self.old)) (λ message. slice_index_or self.old place [] ≡ message ∷ slice_index_or self.new place []) }

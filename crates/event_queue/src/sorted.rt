@@ -6,12 +6,12 @@ ghost use Rattle.event_queue.specs.Rising.{IsRising, HasNoKey, is_before, insert
 use std::alloc::Global;
 use std::collections::VecDeque;
 use std::marker::Model;
-use wt_proto::{Back, Key, Stamped};
+use wt_proto::{Key, Letter};
 
 /// Messages in one row, the one of the least key first. No two have the same key. Contracts see them as a list.
 #[derive(Debug, Drop)]
 pub(crate) struct Sorted {
-    messages: VecDeque<Stamped>,
+    letters: VecDeque<Letter>,
 }
 
 impl Model for Sorted {
@@ -21,9 +21,9 @@ impl Model for Sorted {
 
     ghost Value = { List Stamped };
 
-    ghost view = { λ sorted. sorted.messages.items };
+    ghost view = { λ sorted. sorted.letters.items };
 
-    ghost invariant = { λ sorted. IsRising sorted.messages.items };
+    ghost invariant = { λ sorted. IsRising sorted.letters.items };
 }
 
 impl Sorted {
@@ -32,7 +32,7 @@ impl Sorted {
         ensures { result ≡ [] }
     {
         Sorted {
-            messages: VecDeque::new(alloc),
+            letters: VecDeque::new(alloc),
         }
     }
 
@@ -41,25 +41,23 @@ impl Sorted {
     pub fn is_empty(&self) -> bool
         ensures { IsTrue result ↔ (self.now ≡ []) }
     {
-        self.messages.is_empty()
+        self.letters.is_empty()
     }
 
     /// Puts a message in its place by its key. Where memory is refused, the message comes back and the others stay as
     /// they were.
     #[inline(always)]
-    pub fn insert(&mut self, message: Stamped) -> Result<(), Back>
+    pub fn insert(&mut self, message: Letter) -> Result<(), Letter>
         requires new_key { HasNoKey (key_of message) self.old }
         ensures ok { OnOk result (self.new ≡ insert_of message self.old) }
-        ensures back { IfErr result (λ back. back.message ≡ message) }
+        ensures back { IfErr result (λ back. back ≡ message) }
         ensures err { OnErr result (self.new ≡ self.old) }
         ensures rising { IsRising self.new }
     {
         let place = self.place(message.key());
-        match self.messages.insert(place, message) {
+        match self.letters.insert(place, message) {
             Ok(()) => Ok(()),
-            Err(refused) => Err(Back {
-                message: refused.value,
-            }),
+            Err(refused) => Err(refused.value),
         }
     }
 
@@ -70,7 +68,7 @@ impl Sorted {
         ensures before { AllWithin (λ message. is_before key message ≡ true) self.now 0 result }
         ensures after { AllWithin (λ message. is_before key message ≡ false) self.now result (length self.now) }
     {
-        self.messages
+        self.letters
             .partition_point(|message| message.key().cmp(&key).is_lt())
     }
 
@@ -80,15 +78,15 @@ impl Sorted {
         ensures value { result ≡ peek_of self.now }
         ensures rising { IsRising self.now }
     {
-        self.messages.front().map(|message| message.key())
+        self.letters.front().map(|message| message.key())
     }
 
     /// Takes the message of the least key out. None exactly where there is no message.
     #[inline(always)]
-    pub fn pop(&mut self) -> Option<Stamped>
+    pub fn pop(&mut self) -> Option<Letter>
         ensures value { MatchOption result ((self.old ≡ []) × (self.new ≡ [])) (λ message. self.old ≡ message ∷ self.new) }
         ensures rising { IsRising self.new }
     {
-        self.messages.pop_front()
+        self.letters.pop_front()
     }
 }

@@ -7,12 +7,13 @@ use std::alloc::Global;
 use std::marker::{Brand, Model};
 use std::sync::Wait;
 use wt_params::NoMemory;
-use wt_proto::{Back, Stamped};
+use wt_proto::{Back, Letter, Stamped};
 
-type Queue = RuledSegQueue<Stamped, View, PerSource>;
+type Queue = RuledSegQueue<Letter, View, PerSource>;
 
 /// An inbox of so many sources, which threads share by reference. Contracts see which one it is.
 pub struct Inbox {
+    alloc: Global,
     queue: Queue,
 }
 
@@ -29,7 +30,7 @@ impl Model for Inbox {
 /// Contracts see its inbox, and its view: what was put in through it, and what it took.
 #[derive(Drop)]
 pub struct Pass {
-    seat: SegPass<Stamped, View>,
+    seat: SegPass<Letter, View>,
     lo: u32,
     hi: u32,
     takes: bool,
@@ -68,10 +69,13 @@ impl Inbox {
         ensures back { IfErr result (λ back. (back.message ≡ message) × (pass.new ≡ pass.old)) }
         ensures order { TakesInOrder pass.new.view }
     {
+        let letter = Letter::new(self.alloc, message)?;
         let queue = &self.queue;
-        match queue.push_as::<Deposited, _>(rt, &mut pass.seat, message) {
+        match queue.push_as::<Deposited, _>(rt, &mut pass.seat, letter) {
             Ok(()) => Ok(()),
-            Err(message) => Err(Back { message }),
+            Err(letter) => Err(Back {
+                message: letter.into_message(),
+            }),
         }
     }
 
@@ -84,13 +88,14 @@ impl Inbox {
         ensures merge { IfNone result (IsWhole pass.new.view → HasTakenMerge pass.new.view) }
         ensures order { TakesInOrder pass.new.view }
     {
-        self.queue.pop_as::<Took, _>(rt, &mut pass.seat)
+        let letter = self.queue.pop_as::<Took, _>(rt, &mut pass.seat)?;
+        Some(letter.into_message())
     }
 }
 
 impl Drop for Inbox {
     fn drop(self) {
-        let Inbox { queue } = self;
+        let Inbox { alloc: _, queue } = self;
         queue.destroy();
     }
 }
@@ -192,7 +197,7 @@ fn open_for<J: Place>(alloc: Global, nodes: u32) -> Result<(Inbox, Pass), NoMemo
         hi: nodes,
         takes: true,
     };
-    Ok((Inbox { queue }, pass))
+    Ok((Inbox { alloc, queue }, pass))
 }
 
 // The place of the cut is picked at the call.

@@ -3,7 +3,7 @@ ghost use Rattle.std.specs.Prelude.{ℕ};
 use crossbeam_queue::protocol::{Join, Lesson, Outcome, Protocol, Split};
 use std::collections::LinkedList;
 use std::marker::{Brand, PhantomData};
-use wt_proto::Stamped;
+use wt_proto::{Letter, Stamped};
 
 /// What a pass knows: how many sources the inbox has, the range of them that the pass has, what was put in through it,
 /// whether it may take, and what it took. No value of it is made.
@@ -19,7 +19,7 @@ pub struct View {
 /// The rule of an inbox.
 pub struct PerSource;
 
-impl Protocol<Stamped, View> for PerSource {
+impl Protocol<Letter, View> for PerSource {
     ghost use Rattle.inbox.specs.Views.{view_at_first};
     ghost use Rattle.inbox.specs.Rule.{Keeps};
 
@@ -31,7 +31,7 @@ impl Protocol<Stamped, View> for PerSource {
 /// A deposit.
 pub struct Deposited;
 
-impl Outcome<Stamped, View> for Deposited {
+impl Outcome<Letter, View> for Deposited {
     ghost use Rattle.inbox.specs.Rule.{Deposits};
 
     ghost then = { Deposits };
@@ -40,13 +40,13 @@ impl Outcome<Stamped, View> for Deposited {
 /// A take, and a look.
 pub struct Took;
 
-impl Outcome<Stamped, View> for Took {
+impl Outcome<Letter, View> for Took {
     ghost use Rattle.inbox.specs.Rule.{Takes};
 
     ghost then = { Takes };
 }
 
-impl Lesson<Stamped, View> for Took {
+impl Lesson<Letter, View> for Took {
     ghost use Rattle.inbox.specs.Rule.{KnowsHeld};
 
     ghost fact = { KnowsHeld };

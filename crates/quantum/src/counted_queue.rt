@@ -2,11 +2,11 @@ ghost use Rattle.std.specs.Prelude.{◌≡◌, ◌≤◌, ◌+◌, [], ◌∷◌
 ghost use Rattle.wt_proto.specs.Messages.{key_of};
 ghost use Rattle.event_queue.specs.Rising.{IsRising, HasNoKey, insert_of, peek_of};
 
-use event_queue::{Letter, Queue, Steps};
+use event_queue::{Queue, Steps};
 use std::alloc::Global;
 use std::marker::Model;
 use std::sync::ledger::Ledger;
-use wt_proto::{Back, Key, Stamped};
+use wt_proto::{Back, Key, Letter, Stamped};
 
 /// A queue, and how many messages it has. Contracts see the list of its messages.
 #[derive(Debug, Drop)]

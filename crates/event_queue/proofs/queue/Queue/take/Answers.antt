@@ -3,7 +3,7 @@ use Rattle.wt_proto.specs.declared.message.Stamped.{Stamped}
 use Rattle.event_queue.specs.Rising.{peek_of}
 use Rattle.event_queue.specs.Merging.{is_sooner, merged}
 use Rattle.event_queue.proofs.MergeLaws.{taken_near, taken_far}
-use Rattle.event_queue.proofs.queue.Queue.pop.Goals as goal
+use Rattle.event_queue.proofs.queue.Queue.take.Goals as goal
 
 pub invariant_of-self : goal.invariant_of-self
 invariant_of-self g c =
