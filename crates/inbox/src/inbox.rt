@@ -69,12 +69,28 @@ impl Inbox {
         ensures back { IfErr result (λ back. (back.message ≡ message) × (pass.new ≡ pass.old)) }
         ensures order { TakesInOrder pass.new.view }
     {
-        let letter = Letter::new(self.alloc, message)?;
+        match Letter::new(self.alloc, message) {
+            Ok(letter) => self.put(rt, pass, letter),
+            Err(back) => {
+                pass.keeps_order();
+                Err(back)
+            }
+        }
+    }
+
+    /// The same with a message that has its place.
+    fn put(&self, rt: &impl Wait, pass: &mut Pass, message: Letter) -> Result<(), Back>
+        requires of { pass.old.of ≡ self.now }
+        requires source { HasSource pass.old.view message.from }
+        ensures ok { OnOk result (pass.new ≡ record (pass.old) { view = deposit_of message pass.old.view }) }
+        ensures back { IfErr result (λ back. (back.message ≡ message) × (pass.new ≡ pass.old)) }
+        ensures order { TakesInOrder pass.new.view }
+    {
         let queue = &self.queue;
-        match queue.push_as::<Deposited, _>(rt, &mut pass.seat, letter) {
+        match queue.push_as::<Deposited, _>(rt, &mut pass.seat, message) {
             Ok(()) => Ok(()),
-            Err(letter) => Err(Back {
-                message: letter.into_message(),
+            Err(message) => Err(Back {
+                message: message.into_message(),
             }),
         }
     }
@@ -88,8 +104,22 @@ impl Inbox {
         ensures merge { IfNone result (IsWhole pass.new.view → HasTakenMerge pass.new.view) }
         ensures order { TakesInOrder pass.new.view }
     {
-        let letter = self.queue.pop_as::<Took, _>(rt, &mut pass.seat)?;
-        Some(letter.into_message())
+        match self.take_letter(rt, pass) {
+            None => None,
+            Some(letter) => Some(letter.into_message()),
+        }
+    }
+
+    /// The same in the message's place.
+    fn take_letter(&self, rt: &impl Wait, pass: &mut Pass) -> Option<Letter>
+        requires of { pass.old.of ≡ self.now }
+        requires right { pass.old.view.takes ≡ true }
+        ensures some { IfSome result (λ message. pass.new ≡ record (pass.old) { view = take_of message pass.old.view }) }
+        ensures none { IfNone result ((pass.new ≡ pass.old) × HasTakenAll pass.new.view) }
+        ensures merge { IfNone result (IsWhole pass.new.view → HasTakenMerge pass.new.view) }
+        ensures order { TakesInOrder pass.new.view }
+    {
+        self.queue.pop_as::<Took, _>(rt, &mut pass.seat)
     }
 }
 
@@ -120,6 +150,14 @@ impl Pass {
         ensures { result ≡ self.now.view.takes }
     {
         self.takes
+    }
+
+    // The law that what it has taken is in order.
+    #[inline(always)]
+    fn keeps_order(&self)
+        ensures { TakesInOrder self.now.view }
+    {
+        let _ = &self.seat;
     }
 
     /// Cuts its range in two, and what was put in with it. The lower part keeps the right to take, and what was taken.

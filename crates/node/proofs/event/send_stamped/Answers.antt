@@ -14,7 +14,7 @@ loop-send-preserved c =
     let rest = c.pop_first.new.self in
     let fit : AreSendable machine (send ∷ rest) = subst (AreSendable machine) c.in-Some.ensures c.loop-send.invariant.fit in
     let one : ◌≡◌ {A = Stamped} (record { time = c.stamp.result; to = send.to; from = from; sequence = sequence; msg = send.msg }) (stamped machine from sequence send) =
-        ap (λ time. record { time = time; to = send.to; from = from; sequence = sequence; msg = send.msg }) c.stamp.ensures.value in
+    ap (λ time. record { time = time; to = send.to; from = from; sequence = sequence; msg = send.msg }) c.stamp.ensures.value in
     record {
       fit = λ k d within. fit (suc k) d (omega arith);
       room = let room = c.loop-send.invariant.room in let longer = ap length c.in-Some.ensures in omega (arith, room, longer);

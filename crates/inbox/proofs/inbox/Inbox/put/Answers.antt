@@ -4,7 +4,7 @@ use Rattle.inbox.specs.Views.{HasSource}
 use Rattle.inbox.specs.Passes.{PassModel}
 use Rattle.inbox.proofs.Steps.{deposits}
 use Rattle.inbox.proofs.Kept.{put_in}
-use Rattle.inbox.proofs.inbox.Inbox.deposit.Goals as goal
+use Rattle.inbox.proofs.inbox.Inbox.put.Goals as goal
 
 pub push_as-requires-clause-rule : goal.push_as-requires-clause-rule
 push_as-requires-clause-rule g c = λ n.

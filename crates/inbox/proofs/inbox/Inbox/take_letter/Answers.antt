@@ -2,7 +2,7 @@ use Rattle.std.proofs.Common.{ap, ◌∙◌}
 use Rattle.inbox.specs.Passes.{PassModel}
 use Rattle.inbox.proofs.Steps.{takes, learns}
 use Rattle.inbox.proofs.Kept.{took, merge_of}
-use Rattle.inbox.proofs.inbox.Inbox.take.Goals as goal
+use Rattle.inbox.proofs.inbox.Inbox.take_letter.Goals as goal
 
 pub pop_as-requires-clause-rule : goal.pop_as-requires-clause-rule
 pop_as-requires-clause-rule g c = (takes _ _ (ap (λ (m : PassModel). m.view.takes) c.pass.view_is ∙ c.requires.right), learns _ _)
