@@ -25,8 +25,10 @@
 /* Begins a block. A struct type that is declared so has its blocks to itself, each value of it. */
 #define WWT_ALIGNED __attribute__((aligned(WWT_BLOCK)))
 
-/* As many nodes as a machine has at most. */
+/* As many nodes as the program serves. -DWWT_MOST_NODES=256 is for machines of any size. */
+#ifndef WWT_MOST_NODES
 #define WWT_MOST_NODES 32
+#endif
 
 #if defined __riscv && !defined HOST
 

@@ -11,18 +11,24 @@ from support import EXAMPLES, ToolTest, program, simulate, tool, write
 
 import check_machine
 from wwt_code import Elf, sections_of_code
-from wwt_machine import NAMES, value_of
+from wwt_machine import COSTS, fields_of, value_of
 
 GOOD = {"version": 1, "nodes": 4, "images": [{"hex": "73000000"}]}
 # what is changed, and a part of the sentence; None takes a member away
 BAD = [
-    ({"nodes": 33}, "nodes is 33; it has to be from 1 to 32"),
+    ({"nodes": 33}, "nodes is 33; it has to be from 1 to 32, or 256 in version 2"),
+    ({"version": 2, "nodes": 257}, "nodes is 257; it has to be from 1 to 256"),
     ({"nodes": None}, "nodes is missing"),
     ({"nodes": "4"}, "nodes has to be a whole number"),
     ({"nodes": 4.0}, "nodes has to be a whole number"),
     ({"nodes": True}, "nodes has to be a whole number"),
-    ({"version": 2}, "version is 2; it has to be 1"),
+    ({"version": 3}, "version is 3; it has to be 1 or 2"),
+    ({"version": True}, "version is true; it has to be 1 or 2"),
     ({"version": None}, "version is missing"),
+    ({"hop": 5}, "hop is no field of a description of version 1; version 2 has it"),
+    ({"version": 2, "hop": 101}, "hop is 101; it has to be from 0 to 100"),
+    ({"version": 2, "width": 0}, "width is 0; it has to be from 1 to 256"),
+    ({"version": 2, "pointers": 5}, "pointers is 5; it has to be from 0 to 4"),
     ({"private_bytes": 4100}, "it has to be a multiple of 4096"),
     ({"block_bytes": 48}, "block_bytes is 48; it has to be one of 16, 32, 64, 128"),
     ({"blocks": 65537}, "blocks is 65537; it has to be from 0 to 65536"),
@@ -30,7 +36,9 @@ BAD = [
     ({"sets": 1024, "ways": 5}, "ways is 5; with 1024 sets it has to be at most 4"),
     ({"latency": 10001}, "latency is 10001; it has to be from 1 to 10000"),
     ({"self_latency": 0}, "self_latency is 0"),
-    ({"latency": 50, "quantum": 51}, "quantum is 51; it has to be from 1 to the latency, 50"),
+    ({"latency": 50, "quantum": 51}, "quantum is 51; it has to be from 1 to the least latency"),
+    ({"version": 2, "hop": 5, "quantum": 106}, "to the least latency between nodes, 105"),
+    ({"version": 2, "hop": 5, "nodes": 1, "quantum": 101}, "between nodes, 100"),
     ({"event_limit": 0}, "event_limit is 0"),
     ({"budget": 1 << 41}, "it has to be from 1 to 1099511627776"),
     ({"budget": 1 << 70}, "budget has to be a whole number"),
@@ -104,7 +112,8 @@ class CheckMachineTest(ToolTest):
     def test_good_ones(self):
         for changes in ({}, {"images": [{"hex": ""}] * 4}, {"quantum": 100, "latency": 100},
                         {"costs": {"fill": 0}}, {"images": [{"hex": "00", "at": 1048572}]},
-                        {"sets": 1024, "ways": 4}):
+                        {"sets": 1024, "ways": 4}, {"version": 2, "nodes": 256, "width": 16},
+                        {"version": 2, "hop": 5, "quantum": 105, "pointers": 4}):
             self.describe(changes)
             self.assertEqual(self.check().stdout, "machine.json: nothing is wrong\n")
 
@@ -116,7 +125,8 @@ class CheckMachineTest(ToolTest):
         self.describe({"nodes": 33})
         ran = self.check()
         self.assertEqual((ran.stdout, ran.stderr, ran.returncode),
-                         ("machine.json: nodes is 33; it has to be from 1 to 32\n", "", 1))
+                         ("machine.json: nodes is 33; it has to be from 1 to 32, or 256 in version "
+                          "2\n", "", 1))
 
     def test_bad_ones(self):
         for changes, part in BAD:
@@ -155,10 +165,12 @@ class CheckMachineTest(ToolTest):
                 ran = subprocess.run([wwt, "check", "machine.json"], cwd=self.room, text=True,
                                      capture_output=True, check=False)
                 self.assertIn(ran.returncode, (6, 7, 8), part)
-        self.describe({})
-        shown = [line.split() for line in simulate("check", self.machine).splitlines()]
-        self.assertEqual({name: int(value) for name, value in shown[1:21]},
-                         {name: value_of(GOOD, name) for name in NAMES})
+        for described in (GOOD, {**GOOD, "version": 2}, {**GOOD, "version": 2, "hop": 5}):
+            self.describe(described)
+            shown = [line.split() for line in simulate("check", self.machine).splitlines()]
+            names = [*fields_of(described), *(f"costs.{name}" for name in COSTS)]
+            self.assertEqual([[name, int(value)] for name, value in shown[:-1]],
+                             [[name, value_of(described, name)] for name in ("version", *names)])
 
 
 if __name__ == "__main__":

@@ -123,6 +123,10 @@ class KitTest(unittest.TestCase):
         self.assertIn("counted 100 of 100\n", self.make("P=count", "DEFS=-DSUM"))
         self.assertNotIn("counted 100 of 100\n", self.make("P=count", "DEFS=-DNO_LOCK"))
 
+    def test_the_widest_mesh(self):
+        self.assertIn("2560 numbers read by 256\n", self.make(
+            "P=mesh", "N=256", 'MACHINE="hop": 1, "width": 16, "private_bytes": 65536,'))
+
     def test_block_sizes(self):
         for size in (16, 64, 128):
             for name, text in (("sharing", "each counted 100\n"), ("matmul", "sum 380674048\n"),

@@ -12,7 +12,8 @@ from support import EXAMPLES, TOOLS, ToolTest, program, read, tool, write
 
 from wwt_trace import COUNTERS
 
-# takes 1000 / nodes + latency cycles, and on 4 nodes puts out another byte; refuses 7 nodes
+# takes 1000 / nodes + latency cycles, and on 4 nodes puts out another byte; refuses 7 nodes, what
+# version 1 hasn't, and a quantum past the latency between neighbours
 STAND_IN = """#!{python}
 import json, sys
 machine = json.load(open("machine.json"))
@@ -20,6 +21,10 @@ nodes, latency = machine["nodes"], machine.get("latency", 100)
 open({calls!r}, "a").write(f"{{nodes}} {{latency}} {{machine['blocks']}}\\n")
 if nodes == 7:
     sys.exit("wwt: machine: range nodes 7")
+if machine["version"] == 1 and (nodes > 32 or "hop" in machine):
+    sys.exit("wwt: machine: no version 1")
+if machine.get("quantum", 1) > latency + (machine.get("hop", 0) if nodes > 1 else 0):
+    sys.exit("wwt: machine: range quantum")
 print("outcome finished\\nevents 5\\ntime", 1000 // nodes + latency, "\\nquanta 5")
 names = {counters!r}
 counts = " ".join(f"{{name}} {{number}}" for number, name in enumerate(names))
@@ -92,6 +97,14 @@ class SweepTest(ToolTest):
     def test_speedup_without_a_row_of_one_node(self):
         rows = self.rows(self.sweep("--set", "nodes=2"))
         self.assertEqual([row["speedup"] for row in rows], [str(round(1100 / 600, 4))])
+
+    def test_a_mesh(self):
+        rows = self.rows(self.sweep("--set", "nodes=2,64", "--set", "hop=5", "--set",
+                                    "quantum=105"))
+        names = ("status", "hop", "width", "pointers", "quantum", "speedup")
+        self.assertEqual([[row[name] for name in names] for row in rows], [
+            ["0", "5", "2", "0", "105", str(round(1100 / 600, 4))],
+            ["0", "5", "64", "0", "105", str(round(1100 / 115, 4))]])
 
     def test_shared_memory_keeps_its_size(self):
         self.sweep("--set", "block_bytes=16,32,128", "--shared-bytes", 4096)

@@ -134,7 +134,7 @@ check_machine() {
 # The machines that print the same with a lock or a sum, packed or not, with annotations or without: each with the option
 # that its program is built by.
 machines=(sum ring stencil stencil_plain:-DPLAIN matmul radix radix_plain:-DPLAIN count count_sum:-DSUM
-    sharing sharing_packed:-DPACKED)
+    sharing sharing_packed:-DPACKED mesh mesh_far:-DFAR)
 
 failed=0
 for machine in "${machines[@]}"; do

@@ -14,7 +14,8 @@ import os
 import sys
 
 from wwt_code import (ELF_FAULTS, Elf, ElfFault, Source, foreign_words, sections_of_code)
-from wwt_machine import (BLOCK_BYTES, COSTS, FIELDS, MOST_LINES, PAGE, value_of)
+from wwt_machine import (BLOCK_BYTES, COSTS, FIELDS, MOST_LINES, MOST_NODES, PAGE, fields_of,
+                         is_whole, lookahead_of, value_of, version_of)
 from wwt_tool import ToolError, call, name_of, parser_of, read_bytes
 from wwt_trace import SHARED
 
@@ -56,17 +57,16 @@ def parse(text, path):
     return value
 
 
-def is_whole(value):
-    return isinstance(value, int) and not isinstance(value, bool)
-
-
 def range_of(name, description):
     """The range of a field: least, greatest, and in words."""
     _, least, greatest = FIELDS[name] if name in FIELDS else COSTS[name.partition(".")[2]]
     if name == "quantum":
-        latency = value_of(description, "latency")
-        greatest = latency if is_whole(latency) else FIELDS["latency"][2]
-        return least, greatest, f"from 1 to the latency, {greatest}"
+        greatest = lookahead_of(description)
+        return least, greatest, f"from 1 to the least latency between nodes, {greatest}"
+    if name == "nodes":
+        greatest = MOST_NODES[version_of(description)]
+        more = f", or {MOST_NODES[2]} in version 2" if greatest < MOST_NODES[2] else ""
+        return least, greatest, f"from {least} to {greatest}{more}"
     if name == "block_bytes":
         return least, greatest, "one of " + ", ".join(map(str, BLOCK_BYTES))
     if name == "private_bytes":
@@ -89,10 +89,10 @@ def number_faults(name, value, description):
 
 def field_faults(description):
     faults = []
-    for name, (default, _, _) in FIELDS.items():
+    for name in fields_of(description):
         if name in description:
             faults += number_faults(name, description[name], description)
-        elif default is None and name != "quantum":
+        elif name == "nodes":
             faults.append(f"{name} is missing: it has to be given")
     sets, ways = value_of(description, "sets"), value_of(description, "ways")
     if is_whole(sets) and is_whole(ways) and sets * ways > MOST_LINES and not faults:
@@ -110,14 +110,20 @@ def field_faults(description):
 
 
 def description_faults(description):
-    known = ("version", *FIELDS, "costs", "images")
-    faults = [f"{key} is no field of a description; there are {', '.join(known)}"
-              for key in sorted(set(description) - set(known))]
+    known = ("version", *fields_of(description), "costs", "images")
+    faults = [unknown_fault(key, known) for key in sorted(set(description) - set(known))]
+    version = description.get("version")
     if "version" not in description:
-        faults.append("version is missing: it has to be 1")
-    elif not is_whole(description["version"]) or description["version"] != 1:
-        faults.append(f"version is {json.dumps(description['version'])}; it has to be 1")
+        faults.append("version is missing: it has to be 1 or 2")
+    elif not is_whole(version) or version not in MOST_NODES:
+        faults.append(f"version is {json.dumps(version)}; it has to be 1 or 2")
     return faults + field_faults(description) + images_faults(description)
+
+
+def unknown_fault(key, known):
+    if key in FIELDS:
+        return f"{key} is no field of a description of version 1; version 2 has it"
+    return f"{key} is no field of a description; there are {', '.join(known)}"
 
 
 def images_faults(description):

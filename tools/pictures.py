@@ -1,8 +1,9 @@
 #!/usr/bin/env python3
-"""Draws the pictures of the docs that no run makes: the machine, the states of a directory entry, a
-quantum of two nodes, and the layers of the proof.
+"""Draws the pictures of the docs that no run makes: the machine, its mesh, the states of a directory
+entry, a quantum of two nodes, and the layers of the proof.
 
-    tools/pictures.py               writes docs/machine.svg, directory.svg, quantum.svg, layers.svg
+    tools/pictures.py               writes docs/machine.svg, mesh.svg, directory.svg, quantum.svg and
+                                    layers.svg
     tools/pictures.py --check       says which of them differ from what is stored
 """
 import os
@@ -81,10 +82,51 @@ def machine():
     node_of(picture, 10, 0, True)
     node_of(picture, 376, 1, False)
     picture.text(750, 140, "..  up to", "start", size=14)
-    picture.text(750, 160, "32 nodes", "start", size=14)
+    picture.text(750, 160, "256 nodes", "start", size=14)
     picture.box(10, 300, 840, 56, SOFT, "messages", (
-        "at another node after latency cycles, at the node itself after self_latency; any number at "
-        "once",))
+        "at another node after latency cycles, and hop more for each step of a mesh; at the node itself "
+        "after self_latency",))
+    return picture
+
+
+def shade(part):
+    """A green that is the darker, the greater a part of 1 is."""
+    return "#" + "".join(f"{round(light + (dark - light) * part):02x}"
+                         for light, dark in ((0xF2, 0x7C), (0xFA, 0xC4), (0xF4, 0x92)))
+
+
+def mesh():
+    """Eight rows of eight nodes, each with what a message from node 0 takes."""
+    side, across, down, latency, hop = 8, 64, 44, 100, 10
+    picture = Picture(900, 370)
+    for row in range(side):
+        for column in range(side):
+            x, y = 16 + across * column, 14 + down * row
+            if column + 1 < side:
+                picture.line(f"M{x + 52} {y + 17} L{x + across} {y + 17}", SOFT, plain=True)
+            if row + 1 < side:
+                picture.line(f"M{x + 26} {y + 34} L{x + 26} {y + down}", SOFT, plain=True)
+            steps = row + column
+            picture.parts.append(f'<rect x="{x}" y="{y}" width="52" height="34" rx="4" '
+                                 f'fill="{shade(steps / (2 * side - 2))}" stroke="{SOFT}"/>')
+            picture.text(x + 26, y + 14, str(side * row + column), size=12, bold=True)
+            cycles = latency + hop * steps if steps else 10
+            picture.text(x + 26, y + 28, f"{cycles}", size=11, colour=INK)
+    for number, (text, colour, bold) in enumerate((
+            ("nodes 64, width 8, hop 10, latency 100", INK, True),
+            ("Node i stands in column i mod 8 of row i / 8.", INK, False),
+            ("The lower number: how many cycles a message", INK, False),
+            ("from node 0 takes.", INK, False),
+            ("", INK, False),
+            ("To its neighbours 1 and 8: 100 + 10 * 1 = 110.", GREEN, False),
+            ("To node 63, 7 columns and 7 rows away:", GREEN, False),
+            ("100 + 10 * 14 = 240.", GREEN, False),
+            ("To itself: self_latency, 10.", GREEN, False),
+            ("", INK, False),
+            ("No two nodes are nearer than neighbours. So", PURPLE, False),
+            ("110 cycles is the lookahead: for so long no", PURPLE, False),
+            ("node hears of another.", PURPLE, False))):
+        picture.text(546, 40 + 24 * number, text, "start", colour, 13, bold)
     return picture
 
 
@@ -217,8 +259,8 @@ def layers():
     return picture
 
 
-PICTURES = {"machine.svg": machine, "directory.svg": directory, "quantum.svg": quantum,
-            "layers.svg": layers}
+PICTURES = {"machine.svg": machine, "mesh.svg": mesh, "directory.svg": directory,
+            "quantum.svg": quantum, "layers.svg": layers}
 
 
 def main():

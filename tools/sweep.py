@@ -21,7 +21,7 @@ import os
 import sys
 
 from check_machine import field_faults, read_description
-from wwt_machine import NAMES, value_of, with_value
+from wwt_machine import NAMES, lookahead_of, value_of, with_value
 from wwt_plot import plot
 from wwt_tool import (ToolError, add_program, call, name_of, open_output, parser_of, program_of,
                       read_bytes, shown, warn)
@@ -83,8 +83,10 @@ class Run:
         return " ".join([self.program, self.hash, *self.words])
 
     def alone(self):
-        """The same on one node."""
+        """The same on one node. There a quantum, which changes no result, may have to be shorter."""
         description = {**self.description, "nodes": 1}
+        if "quantum" in description:
+            description["quantum"] = min(description["quantum"], lookahead_of(description))
         return Run(self.image, self.content, description, self.words[1:-1], self.program)
 
     def name(self, keys):

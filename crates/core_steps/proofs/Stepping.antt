@@ -266,7 +266,7 @@ module _ (before : CoreModel) (is : IsCore before) (until : ℕ) (open_until : b
     pub turn_opens : option_map (quantum_end sim) (earliest_of stations) ≡ turned.until
     turn_opens = opens before.machine is.numbers turned turned_reached turned_rests stations turned_live turned_stations
 
-    pub turn_few : before.quanta + 1 ≤ 2 ^ 45
+    pub turn_few : before.quanta + 1 ≤ 2 ^ 48
     turn_few = few_quanta _ (running before.machine is.numbers turned turned_reached turned_rests stations turned_live turned_stations)
 
     none_marked : (n k : ℕ) → get_or (replicate n false) k false ≡ false

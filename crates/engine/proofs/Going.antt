@@ -48,10 +48,10 @@ module _ (engine : EngineModel) (running : IsRunning engine) where
   over none = let e = sym (earliest_is engine running) ∙ none in record { none = e; unchanged = refl; last = is_final engine running e }
 
   -- the sum of the events of all nodes is no large number
-  pub few_times : (nodes limit : ℕ) → nodes ≤ 32 → limit ≤ 2 ^ 40 → nodes * limit ≤ 2 ^ 45
+  pub few_times : (nodes limit : ℕ) → nodes ≤ 256 → limit ≤ 2 ^ 40 → nodes * limit ≤ 2 ^ 48
   few_times nodes limit few most = grind arith
 
-  pub few_quanta : engine.quanta ≤ 2 ^ 45
+  pub few_quanta : engine.quanta ≤ 2 ^ 48
   few_quanta =
       let bound = events_bound engine running in
       let counted = running.counted in
@@ -180,7 +180,7 @@ went now after time is whole still machine = record {
 }
 
 -- An engine counts few rounds of threads.
-pub few_threads : (engine : EngineModel) → IsRunning engine → engine.threaded ≤ 2 ^ 45
+pub few_threads : (engine : EngineModel) → IsRunning engine → engine.threaded ≤ 2 ^ 48
 few_threads engine running =
     let bound = events_bound engine running in
     let threads = running.threads in

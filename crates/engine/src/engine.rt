@@ -24,6 +24,7 @@ use std::sync::Wait;
 use std::sync::ledger::{Blank, Ledger};
 use std::thread::Threads;
 use wt_params::{Machine, NoMemory};
+use wt_proto::StampedList;
 use wt_stats::Head;
 
 /// A machine with all its nodes, each with the messages that wait for it. After want of memory in a round it is broken:
@@ -41,6 +42,8 @@ pub struct Engine {
     threaded: u64,
     /// The passes of the last of these, one for the inbox of each node.
     passes: Vec<Pass>,
+    /// Empty between two quanta, and kept for its memory.
+    letters: StampedList,
     broken: bool,
 }
 
@@ -111,6 +114,7 @@ impl Engine {
             quanta: 0,
             threaded: 0,
             passes: Vec::new(alloc),
+            letters: StampedList::new(alloc),
             broken: false,
         })
     }
@@ -144,7 +148,7 @@ impl Engine {
         let until = self.quantum_end(time);
         // What is half done isn't to be used, should memory be refused.
         self.broken = true;
-        advance(self.alloc, &mut self.stations, until, &mut steps)?;
+        advance(&mut self.letters, &mut self.stations, until, &mut steps)?;
         self.kept_end = until;
         self.quanta += 1;
         self.broken = false;

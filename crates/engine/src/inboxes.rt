@@ -1,4 +1,4 @@
-ghost use Rattle.std.specs.Prelude.{◌≡◌, ◌<◌, ◌≤◌, ◌^◌, All, IfOk, OnOk, get_or, length, map};
+ghost use Rattle.std.specs.Prelude.{◌≡◌, [], ◌<◌, ◌≤◌, ◌^◌, All, IfOk, OnOk, get_or, length, map};
 ghost use Rattle.engine.specs.Inboxes.{AreLent, ArePassesOf, AreToBeTaken, HasTaken, HaveTaken, IsOpened, MayBePosted, MayBeTaken, all_united, lower_part, posted, upper_part};
 
 use event_queue::Steps;
@@ -29,21 +29,21 @@ pub fn open_all<R: Wait>(
     Ok((inboxes, passes))
 }
 
-/// Puts messages into the inboxes of the nodes that they name, in their order.
+/// Takes messages out of a list, and puts them into the inboxes of the nodes that they name, in their order.
 pub fn deposit_all<R: Wait>(
     rt: &R,
     inboxes: &[Inbox],
     passes: &mut [Pass],
-    outs: Outs,
+    outs: &mut Outs,
 ) -> Result<(), NoMemory>
     requires of { ArePassesOf inboxes.now passes.old }
-    requires may { All (MayBePosted passes.old) outs }
-    ensures { OnOk result (passes.new ≡ posted 0 outs passes.old) }
+    requires may { All (MayBePosted passes.old) outs.old }
+    ensures posted { OnOk result (passes.new ≡ posted 0 outs.old passes.old) }
+    ensures none_left { OnOk result (outs.new ≡ []) }
 {
-    let mut outs = outs;
-    while let Some(letter) = outs.pop_first() {
-        let place = letter.to as usize;
-        match inboxes[place].deposit(rt, &mut passes[place], letter) {
+    while let Some(letter) = outs.pop_letter() {
+        let place = letter.message().to as usize;
+        match inboxes[place].deposit_letter(rt, &mut passes[place], letter) {
             Ok(()) => {}
             Err(_back) => return Err(NoMemory),
         }
@@ -115,10 +115,10 @@ fn take<L: Ledger, R: Wait>(
     ensures { OnOk result (HasTaken pass.old pass.new station.old station.new) }
 {
     for _ in rt.forever() {
-        let Some(letter) = inbox.take(rt, pass) else {
+        let Some(letter) = inbox.take_letter(rt, pass) else {
             return Ok(());
         };
-        match station.accept(letter, steps) {
+        match station.accept_letter(letter, steps) {
             Ok(()) => {}
             Err(_back) => return Err(NoMemory),
         }

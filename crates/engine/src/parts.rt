@@ -8,18 +8,19 @@ use crate::stations::{deliver, run_all};
 use event_queue::Steps;
 use gate::Gate;
 use inbox::{Inbox, Pass};
-use quantum::Station;
+use quantum::{Outs, Station};
 use std::alloc::Global;
 use std::marker::Brand;
 use std::sync::Wait;
 use std::sync::ledger::{Blank, Ledger};
 use std::thread::{Threads, join_mut};
 use wt_params::NoMemory;
+use wt_proto::StampedList;
 
 /// Every station runs on its own up to a time, on the calling thread, and then they are given what they have sent to
-/// each other.
+/// each other. The list is for what is under way in between.
 pub fn advance<L: Ledger>(
-    alloc: Global,
+    letters: &mut StampedList,
     stations: &mut [Station],
     until: u64,
     steps: &mut Steps<L>,
@@ -28,7 +29,8 @@ pub fn advance<L: Ledger>(
     requires exchange { MayExchange until stations.old }
     ensures { OnOk result (HaveExchanged until stations.old stations.new) }
 {
-    let letters = run_all(alloc, stations, until, steps)?;
+    letters.clear();
+    run_all(letters, stations, until, steps)?;
     deliver(stations, letters, steps)
 }
 
@@ -74,6 +76,7 @@ pub fn advance_by_workers<L: Ledger, R: Threads + Wait + Sync, G: Gate + Sync>(
 /// The stations of a part run one after the other, and what each hands out is put into the inboxes.
 fn run_part<R: Wait>(
     rt: &R,
+    alloc: Global,
     until: u64,
     inboxes: &[Inbox],
     passes: &mut [Pass],
@@ -83,13 +86,14 @@ fn run_part<R: Wait>(
     requires post { CanPost until inboxes.now passes.old stations.old }
     ensures { OnOk result (HavePosted until stations.old stations.new passes.old passes.new) }
 {
-    run_part_counted::<Brand, R>(Blank::new(1), rt, until, inboxes, passes, stations)
+    run_part_counted::<Brand, R>(Blank::new(1), rt, alloc, until, inboxes, passes, stations)
 }
 
 /// The same, with the steps of the queues counted in a ledger.
 fn run_part_counted<L: Ledger, R: Wait>(
     blank: Blank,
     rt: &R,
+    alloc: Global,
     until: u64,
     inboxes: &[Inbox],
     passes: &mut [Pass],
@@ -103,9 +107,10 @@ fn run_part_counted<L: Ledger, R: Wait>(
     ensures { OnOk result (HavePosted until stations.old stations.new passes.old passes.new) }
 {
     let mut steps = Steps::<L>::new(blank);
+    let mut outs = Outs::new(alloc);
     for station in stations.iter_mut() {
-        let outs = station.run_to(until, &mut steps)?;
-        deposit_all(rt, inboxes, passes, outs)?;
+        station.run_into(until, &mut outs, &mut steps)?;
+        deposit_all(rt, inboxes, passes, &mut outs)?;
     }
     Ok(())
 }
@@ -164,7 +169,7 @@ fn run_parts<R: Threads + Wait + Sync, G: Gate + Sync>(
 {
     if parts <= 1 {
         gate.pass(round, first);
-        return run_part(rt, until, inboxes, passes, stations);
+        return run_part(rt, alloc, until, inboxes, passes, stations);
     }
     let left = parts - parts / 2;
     let at = cut_at(stations.len(), left, parts);

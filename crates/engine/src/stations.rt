@@ -1,11 +1,10 @@
-ghost use Rattle.std.specs.Prelude.{◌≡◌, All, IfOk, OnOk};
+ghost use Rattle.std.specs.Prelude.{◌≡◌, [], All, IfOk, OnOk};
 ghost use Rattle.quantum.specs.Stations.{IsUnbroken};
 ghost use Rattle.engine.specs.Sole.{AreSole, HaveEnded};
 ghost use Rattle.engine.specs.Quantum.{HaveRun, IsGood, MayDeliver, MayRun, delivered, earliest_of, sooner};
 
 use event_queue::Steps;
 use quantum::{Quanta, Station};
-use std::alloc::Global;
 use std::sync::ledger::Ledger;
 use wt_params::NoMemory;
 use wt_proto::StampedList;
@@ -32,42 +31,38 @@ fn lesser(one: Option<u64>, other: Option<u64>) -> Option<u64>
     }
 }
 
-/// Every station runs on its own up to a time. What they send to each other is handed out, in the order of the
+/// Every station runs on its own up to a time. What they send to each other is put into a list, in the order of the
 /// stations.
 pub fn run_all<L: Ledger>(
-    alloc: Global,
+    letters: &mut StampedList,
     stations: &mut [Station],
     until: u64,
     steps: &mut Steps<L>,
-) -> Result<StampedList, NoMemory>
+) -> Result<(), NoMemory>
     requires may { MayRun until stations.old }
-    ensures { IfOk result (HaveRun until stations.old stations.new) }
+    requires empty { letters.old ≡ [] }
+    ensures { OnOk result (HaveRun until stations.old stations.new letters.new) }
 {
-    let mut letters = StampedList::new(alloc);
     for station in stations.iter_mut() {
-        station.run_into(until, &mut letters, steps)?;
+        station.run_into(until, letters, steps)?;
     }
-    Ok(letters)
+    Ok(())
 }
 
-/// Gives each message to the station that it names.
+/// Takes each message out of a list, and gives it to the station that it names.
 pub fn deliver<L: Ledger>(
     stations: &mut [Station],
-    letters: StampedList,
+    letters: &mut StampedList,
     steps: &mut Steps<L>,
 ) -> Result<(), NoMemory>
-    requires may { MayDeliver letters stations.old }
+    requires may { MayDeliver letters.old stations.old }
     requires good { All IsGood stations.old }
-    ensures delivered { OnOk result (stations.new ≡ delivered letters stations.old) }
+    ensures delivered { OnOk result (stations.new ≡ delivered letters.old stations.old) }
     ensures good { OnOk result (All IsGood stations.new) }
 {
-    if letters.is_empty() {
-        return Ok(());
-    }
-    let mut letters = letters;
-    while let Some(letter) = letters.pop_first() {
-        let place = letter.to as usize;
-        match stations[place].accept(letter, steps) {
+    while let Some(letter) = letters.pop_letter() {
+        let place = letter.message().to as usize;
+        match stations[place].accept_letter(letter, steps) {
             Ok(()) => {}
             Err(_back) => return Err(NoMemory),
         }

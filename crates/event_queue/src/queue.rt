@@ -19,8 +19,6 @@ pub struct Queue {
     ring: Ring,
     /// All others. A message stays where it was put.
     far: Sorted,
-    /// The places of messages that are gone, to be used again.
-    used: Vec<Letter>,
 }
 
 impl Model for Queue {
@@ -44,7 +42,6 @@ impl Queue {
             alloc,
             ring: Ring::new(alloc),
             far: Sorted::new(alloc),
-            used: Vec::new(alloc),
         }
     }
 
@@ -60,7 +57,7 @@ impl Queue {
         ensures step { steps.new ≡ steps.old + 1 }
     {
         steps.tick();
-        let letter = self.write(message)?;
+        let letter = Letter::new(self.alloc, message)?;
         match self.put(letter) {
             Ok(()) => Ok(()),
             Err(letter) => Err(Back {
@@ -69,22 +66,22 @@ impl Queue {
         }
     }
 
-    /// Writes a message into a place that was used, or into a new one.
+    /// The same with a message that has its place.
     #[inline(always)]
-    fn write(&mut self, message: Stamped) -> Result<Letter, Back>
-        ensures ok { IfOk result (λ letter. letter ≡ message) }
-        ensures back { IfErr result (λ back. back.message ≡ message) }
-        ensures same { self.new ≡ self.old }
+    pub fn insert_letter<L: Ledger>(
+        &mut self,
+        message: Letter,
+        steps: &mut Steps<L>,
+    ) -> Result<(), Letter>
+        requires new_key { HasNoKey (key_of message) self.old }
+        ensures ok { OnOk result (self.new ≡ insert_of message self.old) }
+        ensures back { IfErr result (λ back. back ≡ message) }
+        ensures err { OnErr result (self.new ≡ self.old) }
         ensures rising { IsRising self.new }
+        ensures step { steps.new ≡ steps.old + 1 }
     {
-        match self.used.pop() {
-            None => Letter::new(self.alloc, message),
-            Some(used) => {
-                let mut letter = used;
-                letter.rewrite(message);
-                Ok(letter)
-            }
-        }
+        steps.tick();
+        self.put(message)
     }
 
     /// Puts a message that has its place among the others by its key.
@@ -129,7 +126,7 @@ impl Queue {
         }
     }
 
-    /// The same in the message's place, which is to be given back.
+    /// The same in the message's place.
     #[inline(always)]
     pub fn take<L: Ledger>(&mut self, steps: &mut Steps<L>) -> Option<Letter>
         ensures value { MatchOption result ((self.old ≡ []) × (self.new ≡ [])) (λ message. self.old ≡ message ∷ self.new) }
@@ -142,15 +139,6 @@ impl Queue {
         } else {
             self.far.pop()
         }
-    }
-
-    /// Keeps the place of a message that is gone, to be used again.
-    #[inline(always)]
-    pub fn give_back(&mut self, letter: Letter)
-        ensures same { self.new ≡ self.old }
-        ensures rising { IsRising self.new }
-    {
-        let _ = self.used.push(letter);
     }
 }
 

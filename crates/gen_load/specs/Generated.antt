@@ -40,4 +40,5 @@ unfoldable pub generated : ℕ → Description
 generated number = record {
   machine = machine_of number;
   images = Bytes 0 (assembled (listing_of number)) ∷ [];
+  version = 1;
 }

@@ -26,6 +26,7 @@ pub fn generate(alloc: Global, number: u64) -> Result<Description, NoMemory>
     Ok(Description {
         machine: machine(number),
         images: ImageSpecs::new(images),
+        version: 1,
     })
 }
 

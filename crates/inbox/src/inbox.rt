@@ -70,7 +70,12 @@ impl Inbox {
         ensures order { TakesInOrder pass.new.view }
     {
         match Letter::new(self.alloc, message) {
-            Ok(letter) => self.put(rt, pass, letter),
+            Ok(letter) => match self.deposit_letter(rt, pass, letter) {
+                Ok(()) => Ok(()),
+                Err(letter) => Err(Back {
+                    message: letter.into_message(),
+                }),
+            },
             Err(back) => {
                 pass.keeps_order();
                 Err(back)
@@ -79,20 +84,20 @@ impl Inbox {
     }
 
     /// The same with a message that has its place.
-    fn put(&self, rt: &impl Wait, pass: &mut Pass, message: Letter) -> Result<(), Back>
+    pub fn deposit_letter(
+        &self,
+        rt: &impl Wait,
+        pass: &mut Pass,
+        message: Letter,
+    ) -> Result<(), Letter>
         requires of { pass.old.of ≡ self.now }
         requires source { HasSource pass.old.view message.from }
         ensures ok { OnOk result (pass.new ≡ record (pass.old) { view = deposit_of message pass.old.view }) }
-        ensures back { IfErr result (λ back. (back.message ≡ message) × (pass.new ≡ pass.old)) }
+        ensures back { IfErr result (λ back. (back ≡ message) × (pass.new ≡ pass.old)) }
         ensures order { TakesInOrder pass.new.view }
     {
         let queue = &self.queue;
-        match queue.push_as::<Deposited, _>(rt, &mut pass.seat, message) {
-            Ok(()) => Ok(()),
-            Err(message) => Err(Back {
-                message: message.into_message(),
-            }),
-        }
+        queue.push_as::<Deposited, _>(rt, &mut pass.seat, message)
     }
 
     /// Takes the first message. None comes only where the inbox held nothing at that step.
@@ -111,7 +116,7 @@ impl Inbox {
     }
 
     /// The same in the message's place.
-    fn take_letter(&self, rt: &impl Wait, pass: &mut Pass) -> Option<Letter>
+    pub fn take_letter(&self, rt: &impl Wait, pass: &mut Pass) -> Option<Letter>
         requires of { pass.old.of ≡ self.now }
         requires right { pass.old.view.takes ≡ true }
         ensures some { IfSome result (λ message. pass.new ≡ record (pass.old) { view = take_of message pass.old.view }) }

@@ -15,11 +15,16 @@ const ROWS: &str = r#" => Syntax
 {} {} => Syntax
 [] => NotObject
 {} => Missing(Key { inner: "version" })
-{"version":2} => Range(Key { inner: "version" }, 2)
+{"version":3} => Range(Key { inner: "version" }, 3)
 {"version":"1","nodes":33} => Kind(Key { inner: "version" })
 {"version":1} => Missing(Key { inner: "nodes" })
 {"version":1,"nodes":33} => Range(Key { inner: "nodes" }, 33)
 {"version":1,"nodes":32,"costs":{}} => Missing(Key { inner: "images" })
+{"version":1,"nodes":2,"hop":1} => Unknown(Key { inner: "hop" })
+{"version":2,"nodes":257} => Range(Key { inner: "nodes" }, 257)
+{"version":2,"nodes":256,"hop":101} => Range(Key { inner: "hop" }, 101)
+{"version":2,"nodes":2,"hop":5,"quantum":106} => Range(Key { inner: "quantum" }, 106)
+{"version":2,"nodes":256,"hop":5,"quantum":105} => Missing(Key { inner: "images" })
 {"version":2,"b":1,"a":1} => Unknown(Key { inner: "a" })
 {"version":1,"nodes":2,"images":[{"hex":"" => Syntax
 "latency":100 => ok
@@ -109,11 +114,12 @@ const SHARED_LOAD: &str =
 
 const READ: &str =
     "Description { machine: Machine { parts: MachineParts { nodes: 2, private_bytes: 4096, \
-block_bytes: 16, blocks: 4, sets: 2, ways: 1, latency: 100, self_latency: 10, quantum: 100, \
+block_bytes: 16, blocks: 4, sets: 2, ways: 1, latency: 100, self_latency: 10, \
+hop: 0, width: 2, pointers: 0, quantum: 100, \
 event_limit: 4294967296, budget: 4294967296, costs: CostParts { op: 1, taken: 2, mem: 1, hit: 1, \
 cico: 1, call: 1, fill: 4, trap: 250, trap_each: 5 } } }, images: ImageSpecs { inner: [Bytes { at: 0, \
 bytes: ByteList { inner: [147, 8, 208, 5, 115, 0, 0, 0] } }, File { name: FileName { inner: \"b.elf\" }, \
-elf: true, at: 8 }] } }";
+elf: true, at: 8 }] }, version: 1 }";
 
 #[test]
 fn a_description(rt: HostRuntime) -> Result<(), Fail> {

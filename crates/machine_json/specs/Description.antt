@@ -5,13 +5,13 @@ use Rattle.std.specs.Str.{is_utf8}
 use Rattle.serde_json.specs.Data.{Data, Members}
 use Rattle.serde_json.specs.Find.{as_object}
 use Rattle.serde_json.specs.Read.{read}
-use Rattle.machine_json.specs.declared.keys.Table.TheVariants as tables
+use Rattle.machine_json.specs.declared.keys.Table.{Table}
 use Rattle.machine_json.specs.declared.description.Description.{Description}
 use Rattle.machine_json.specs.declared.fault.MachineFault.{MachineFault}
 use Rattle.machine_json.specs.declared.fault.MachineFault.TheVariants.{Syntax, NotObject, Unknown}
 use Rattle.machine_json.specs.Answers.{◌>>◌, ◌>>=◌}
-use Rattle.machine_json.specs.Table.{unknown_in, own_fields, cost_fields}
-use Rattle.machine_json.specs.Numbers.{parts_of, version_fault, fields_fault, costs_fault}
+use Rattle.machine_json.specs.Table.{unknown_in, own_fields, cost_fields, table_of, version_of}
+use Rattle.machine_json.specs.Numbers.{parts_of, version_fault, few_nodes_fault, fields_fault, costs_fault}
 use Rattle.machine_json.specs.Images.{images_of, IsPlaced}
 
 -- what a text says, where it is UTF-8 and JSON
@@ -24,12 +24,12 @@ data_fault None = Some Syntax
 data_fault (Some description) = None
 
 -- a description is an object of nothing but what stands in the table
-abbrev pub keys_in_fault : Option Members → Option MachineFault
-keys_in_fault None = Some NotObject
-keys_in_fault (Some members) = option_map Unknown (unknown_in tables.Description members)
+abbrev pub keys_in_fault : Table → Option Members → Option MachineFault
+keys_in_fault table None = Some NotObject
+keys_in_fault table (Some members) = option_map Unknown (unknown_in table members)
 
 unfoldable pub keys_fault : Data → Option MachineFault
-keys_fault description = keys_in_fault (as_object description)
+keys_fault description = keys_in_fault (table_of description) (as_object description)
 
 -- the numbers of a description, in the order in which they are tested: the version, its own, and its costs
 unfoldable pub own_fault : Data → Option MachineFault
@@ -38,10 +38,11 @@ own_fault description = fields_fault description (parts_of description) own_fiel
 unfoldable pub cost_fault : Data → Option MachineFault
 cost_fault description = fields_fault description (parts_of description) cost_fields
 
--- all of these numbers, with the object of costs between
+-- all of these numbers, first that nodes are few enough for the version, and with the object of costs between
 unfoldable pub numbers_fault : Data → Option MachineFault
 numbers_fault description =
-    option_or (own_fault description) (option_or (costs_fault description) (cost_fault description))
+    option_or (few_nodes_fault description)
+    (option_or (own_fault description) (option_or (costs_fault description) (cost_fault description)))
 
 -- what some data describe
 unfoldable pub description_in : Data → Result Description MachineFault
@@ -50,7 +51,7 @@ description_in description = do
   version_fault description
   numbers_fault description
   images ← images_of (parts_of description).nodes description
-  Ok (record { machine = parts_of description; images = images })
+  Ok (record { machine = parts_of description; images = images; version = version_of description })
 
 abbrev pub description_or_fault : Option Data → Result Description MachineFault
 description_or_fault None = Err Syntax

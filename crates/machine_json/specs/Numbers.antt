@@ -1,17 +1,18 @@
 -- The numbers of a description, and what refuses them. Ranges are those of a machine. Own.
-use Rattle.std.specs.Prelude.{◌≡◌, ℕ, ◌==◌, Bool, true, false, ◌⊎◌, if◌then◌else◌, List, [], ◌∷◌, ◌++◌, Option, Some, None, is_some, unwrap_or, option_map, option_and_then}
+use Rattle.std.specs.Prelude.{◌≡◌, ℕ, ◌-◌, ◌^◌, ◌==◌, nat_le, min, Bool, true, false, ◌⊎◌, if◌then◌else◌, List, [], ◌∷◌, ◌++◌, Option, Some, None, is_some, unwrap_or, option_map, option_and_then}
 use Rattle.std.specs.Option.{option_or}
 use Rattle.wt_params.specs.declared.parts.Field.{Field}
-use Rattle.wt_params.specs.declared.parts.Field.TheVariants.{Nodes, PrivateBytes, BlockBytes, Blocks, Sets, Ways, Latency, SelfLatency, Quantum, EventLimit, Budget, Op, Taken, Mem, Hit, Cico, Call, Fill, Trap, TrapEach}
+use Rattle.wt_params.specs.declared.parts.Field.TheVariants.{Nodes, PrivateBytes, BlockBytes, Blocks, Sets, Ways, Latency, SelfLatency, Hop, Width, Pointers, Quantum, EventLimit, Budget, Op, Taken, Mem, Hit, Cico, Call, Fill, Trap, TrapEach}
 use Rattle.wt_params.specs.declared.parts.CostParts.{CostParts}
 use Rattle.wt_params.specs.declared.parts.MachineParts.{MachineParts}
-use Rattle.wt_params.specs.Fields.{number_of, is_in_range, fault_among, fault_of, key_of}
+use Rattle.wt_params.specs.Mesh.{lookahead_of}
+use Rattle.wt_params.specs.Fields.{is_within, number_of, is_in_range, fault_among, fault_of, key_of}
 use Rattle.serde_json.specs.Data.{Data, Members}
 use Rattle.serde_json.specs.Find.{get, as_object}
 use Rattle.machine_json.specs.declared.keys.Table.TheVariants as tables
 use Rattle.machine_json.specs.declared.fault.MachineFault.{MachineFault}
 use Rattle.machine_json.specs.declared.fault.MachineFault.TheVariants.{Unknown, Missing, Kind, Range}
-use Rattle.machine_json.specs.Table.{version_key, costs_key, cost_prefix, unknown_in, value_of, whole_number}
+use Rattle.machine_json.specs.Table.{version_key, costs_key, cost_prefix, unknown_in, value_of, version_of, whole_number}
 
 -- a number that has to be there, or has a default
 abbrev pub is_required : Field → Bool
@@ -37,6 +38,9 @@ default_parts_of nodes = record {
   ways = 4;
   latency = default_latency;
   self_latency = 10;
+  hop = 0;
+  width = nodes;
+  pointers = 0;
   quantum = default_latency;
   event_limit = 4294967296;
   budget = 4294967296;
@@ -57,10 +61,14 @@ costs_or description default = record {
   trap_each = number_or description TrapEach default.trap_each;
 }
 
--- The numbers of a description, and others in the places of those that aren't there. A quantum is as long as the latency
--- unless it is given.
+-- the longest quantum of a machine, as far as 64 bits go
+abbrev pub longest_quantum : MachineParts → ℕ
+longest_quantum machine = min (lookahead_of machine) (2 ^ 64 - 1)
+
+-- The numbers of a description, and others in the places of those that aren't there. All nodes stand in one row, and a
+-- quantum is as long as the lookahead, unless they are given.
 abbrev pub numbers_or : Data → MachineParts → MachineParts
-numbers_or description default = record {
+numbers_or description default = with_quantum description (record {
   nodes = number_or description Nodes default.nodes;
   private_bytes = number_or description PrivateBytes default.private_bytes;
   block_bytes = number_or description BlockBytes default.block_bytes;
@@ -69,11 +77,18 @@ numbers_or description default = record {
   ways = number_or description Ways default.ways;
   latency = number_or description Latency default.latency;
   self_latency = number_or description SelfLatency default.self_latency;
-  quantum = number_or description Quantum (number_or description Latency default.latency);
+  hop = number_or description Hop default.hop;
+  width = number_or description Width (number_or description Nodes default.nodes);
+  pointers = number_or description Pointers default.pointers;
+  quantum = default.quantum;
   event_limit = number_or description EventLimit default.event_limit;
   budget = number_or description Budget default.budget;
   costs = costs_or description default.costs;
-}
+})
+  where
+    with_quantum : Data → MachineParts → MachineParts
+    with_quantum description machine =
+        record machine { quantum = number_or description Quantum (longest_quantum machine) }
 
 -- The numbers of a description, with the defaults of those that aren't there. Nodes have no default: without them the
 -- description is refused.
@@ -103,15 +118,23 @@ fields_fault description parts (field ∷ rest) =
 abbrev pub IsFirstAmong : MachineParts → List Field → Type 0
 IsFirstAmong parts fields = (fault_among parts fields ≡ None) ⊎ (fault_among parts fields ≡ fault_of parts)
 
--- the version is there and is 1
-abbrev pub is_version_1 : Option ℕ → Option MachineFault
-is_version_1 None = None
-is_version_1 (Some version) = if version == 1 then None else Some (Range version_key version)
+-- the version is there and is 1 or 2
+abbrev pub is_version : Option ℕ → Option MachineFault
+is_version None = None
+is_version (Some version) = if is_within 1 2 version then None else Some (Range version_key version)
 
 unfoldable pub version_fault : Data → Option MachineFault
 version_fault description =
     option_or (kind_fault true version_key (get version_key description))
-    (is_version_1 (option_and_then whole_number (get version_key description)))
+    (is_version (option_and_then whole_number (get version_key description)))
+
+-- a machine of version 1 has at most 32 nodes
+abbrev pub few_nodes : Bool → ℕ → Option MachineFault
+few_nodes true nodes = None
+few_nodes false nodes = if nat_le nodes 32 then None else Some (Range (key_of Nodes) nodes)
+
+unfoldable pub few_nodes_fault : Data → Option MachineFault
+few_nodes_fault description = few_nodes (version_of description == 2) (number_or description Nodes 0)
 
 -- the costs are an object of nothing but costs
 abbrev pub members_fault : Option Members → Option MachineFault

@@ -25,4 +25,6 @@ pub enum ImageSpec {
 pub struct Description {
     pub machine: Machine,
     pub images: ImageSpecs,
+    /// The version of the description, 1 or 2.
+    pub version: u64,
 }

@@ -2,14 +2,14 @@ ghost use Rattle.std.specs.Prelude.{◌≡◌, ◌≢◌, OnOk, IfOk, IfErr, IfS
 ghost use Rattle.std.specs.Option.{option_map, option_and_then};
 ghost use Rattle.machine_json.specs.Answers.{IsFaultOf};
 ghost use Rattle.machine_json.specs.Description.{numbers_fault};
-ghost use Rattle.machine_json.specs.Numbers.{parts_of, costs_or, number_or, kind_fault, number_fault, fields_fault, version_fault, costs_fault, IsFirstAmong};
+ghost use Rattle.machine_json.specs.Numbers.{parts_of, costs_or, number_or, kind_fault, number_fault, fields_fault, version_fault, few_nodes_fault, costs_fault, IsFirstAmong};
 ghost use Rattle.machine_json.specs.Table.{whole_number};
 ghost use Rattle.serde_json.specs.View.{view};
 ghost use Rattle.wt_params.specs.Fields.{fault_among, machine_of};
 
 use crate::default::default_parts;
 use crate::fault::MachineFault;
-use crate::keys::{COSTS, OWN_FIELDS, Table, VERSION, cost_key, key, value_of};
+use crate::keys::{COSTS, OWN_FIELDS, Table, VERSION, cost_key, key, value_of, version_of};
 use serde_json::Value;
 use std::alloc::Global;
 use wt_params::{CostParts, Field, Machine, MachineParts, ParamFault};
@@ -21,6 +21,7 @@ pub(crate) fn read_numbers(alloc: Global, description: &Value) -> Result<Machine
     ensures fault { IfErr result (IsFaultOf (numbers_fault (view description.now))) }
 {
     let parts = parts_of(description);
+    check_few_nodes(alloc, description)?;
     let fields = Field::all();
     let made = Machine::new(parts);
     check_fields(alloc, description, &made, &fields[..OWN_FIELDS])?;
@@ -93,7 +94,20 @@ fn check_kind(
     }
 }
 
-/// Tests the version, which is there and is 1.
+/// Tests that a machine of version 1 has few nodes.
+#[tactic(auto, unfolding(crate::specs::Numbers::few_nodes_fault))]
+fn check_few_nodes(alloc: Global, description: &Value) -> Result<(), MachineFault>
+    ensures ok { OnOk result (few_nodes_fault (view description.now) ≡ None) }
+    ensures fault { IfErr result (IsFaultOf (few_nodes_fault (view description.now))) }
+{
+    let nodes = number_or(description, Field::Nodes, 0);
+    if version_of(description) == 2 || nodes <= 32 {
+        return Ok(());
+    }
+    Err(MachineFault::Range(key(alloc, Field::Nodes.key())?, nodes))
+}
+
+/// Tests the version, which is there and is 1 or 2.
 pub(crate) fn check_version(alloc: Global, description: &Value) -> Result<(), MachineFault>
     ensures ok { OnOk result (version_fault (view description.now) ≡ None) }
     ensures fault { IfErr result (IsFaultOf (version_fault (view description.now))) }
@@ -101,7 +115,7 @@ pub(crate) fn check_version(alloc: Global, description: &Value) -> Result<(), Ma
     let version = description.get(VERSION);
     check_kind(alloc, true, VERSION, version)?;
     let number = whole_number(version).unwrap_or(1);
-    if number != 1 {
+    if !(1..=2).contains(&number) {
         return Err(MachineFault::Range(key(alloc, VERSION)?, number));
     }
     Ok(())
@@ -130,21 +144,26 @@ fn parts_of(description: &Value) -> MachineParts
     ensures { result ≡ parts_of (view description.now) }
 {
     let default = default_parts(0);
-    let latency = number_or(description, Field::Latency, default.latency);
-    MachineParts {
-        nodes: number_or(description, Field::Nodes, default.nodes),
+    let nodes = number_or(description, Field::Nodes, default.nodes);
+    let mut parts = MachineParts {
+        nodes,
         private_bytes: number_or(description, Field::PrivateBytes, default.private_bytes),
         block_bytes: number_or(description, Field::BlockBytes, default.block_bytes),
         blocks: number_or(description, Field::Blocks, default.blocks),
         sets: number_or(description, Field::Sets, default.sets),
         ways: number_or(description, Field::Ways, default.ways),
-        latency,
+        latency: number_or(description, Field::Latency, default.latency),
         self_latency: number_or(description, Field::SelfLatency, default.self_latency),
-        quantum: number_or(description, Field::Quantum, latency),
+        hop: number_or(description, Field::Hop, default.hop),
+        width: number_or(description, Field::Width, nodes),
+        pointers: number_or(description, Field::Pointers, default.pointers),
+        quantum: default.quantum,
         event_limit: number_or(description, Field::EventLimit, default.event_limit),
         budget: number_or(description, Field::Budget, default.budget),
         costs: costs_of(description, &default.costs),
-    }
+    };
+    parts.quantum = number_or(description, Field::Quantum, parts.lookahead());
+    parts
 }
 
 /// The costs of a description, and others in the places of those that aren't there.

@@ -1,14 +1,15 @@
-ghost use Rattle.std.specs.Prelude.{◌≡◌, ◌++◌, IfOk, OnOk, IfErr, None, codes, find, not, string_bytes};
+ghost use Rattle.std.specs.Prelude.{◌≡◌, ◌++◌, ◌&&◌, IfOk, OnOk, IfErr, None, codes, find, not, string_bytes};
 ghost use Rattle.std.specs.BTreeMap.{keys};
 ghost use Rattle.std.specs.List.{list_any};
 ghost use Rattle.std.specs.Str.{bytes_eq};
 ghost use Rattle.std.specs.Option.{option_map, option_copied};
 ghost use Rattle.machine_json.specs.Answers.{IsFaultOf};
 ghost use Rattle.machine_json.specs.Images.{image_key, member_key};
-ghost use Rattle.machine_json.specs.Table.{is_in, unknown_in, is_cost, name_of, value_of, own_fields, cost_fields};
+ghost use Rattle.machine_json.specs.Table.{is_in, unknown_in, is_cost, is_of_version_2, name_of, value_of, own_fields, cost_fields, table_of, version_of};
 ghost use Rattle.wt_params.specs.Fields.{key_of};
 ghost use Rattle.serde_json.specs.View.{view, members_view};
 
+use crate::fields::whole_number;
 use crate::lists::Key;
 use serde_json::{Map, Value};
 use std::alloc::Global;
@@ -30,12 +31,13 @@ pub(crate) const FORMAT: &str = "format";
 pub(crate) const AT: &str = "at";
 
 /// How many fields stand in the description itself; the rest are costs.
-pub(crate) const OWN_FIELDS: usize = 11;
+pub(crate) const OWN_FIELDS: usize = 14;
 
 /// The objects of a description, each with a table of the keys that it may have.
 #[derive(Clone, Copy, Debug)]
 pub(crate) enum Table {
-    Description,
+    Version1,
+    Version2,
     Costs,
     Image,
 }
@@ -46,7 +48,10 @@ impl Table {
         ensures { result ≡ is_in self key.now }
     {
         match self {
-            Table::Description => {
+            Table::Version1 => {
+                key == VERSION || is_first_key(key) || key == COSTS || key == IMAGES
+            }
+            Table::Version2 => {
                 key == VERSION || is_own_key(key) || key == COSTS || key == IMAGES
             }
             Table::Costs => is_cost_name(key),
@@ -79,6 +84,22 @@ fn is_own_key(key: &str) -> bool
     Field::all()[..OWN_FIELDS]
         .iter()
         .any(|field| key == field.key())
+}
+
+/// Whether a key is that of a number in a description of version 1 itself.
+fn is_first_key(key: &str) -> bool
+    ensures { result ≡ list_any (λ field. not (is_of_version_2 field) && bytes_eq key.now (key_of field)) own_fields }
+{
+    Field::all()[..OWN_FIELDS]
+        .iter()
+        .any(|field| !is_of_version_2(*field) && key == field.key())
+}
+
+/// Whether a description of version 1 can't give a number.
+pub fn is_of_version_2(field: Field) -> bool
+    ensures { result ≡ is_of_version_2 field }
+{
+    matches!(field, Field::Hop | Field::Width | Field::Pointers)
 }
 
 /// Whether a name is that of a cost.
@@ -123,6 +144,25 @@ pub(crate) fn name_of(field: Field) -> &'static str
         Field::Trap => "trap",
         Field::TrapEach => "trap_each",
         own => own.key(),
+    }
+}
+
+/// The version that a description says it has; 1 where none can be read.
+pub(crate) fn version_of(description: &Value) -> u64
+    ensures { result ≡ version_of (view description.now) }
+{
+    whole_number(description.get(VERSION)).unwrap_or(1)
+}
+
+/// The table of a description, by its version.
+#[tactic(auto, unfolding(crate::specs::Table::table_of))]
+pub(crate) fn table_of(description: &Value) -> Table
+    ensures { result ≡ table_of (view description.now) }
+{
+    if version_of(description) == 2 {
+        Table::Version2
+    } else {
+        Table::Version1
     }
 }
 

@@ -16,5 +16,6 @@ mod reader;
 pub use default::default_parts;
 pub use description::{Description, ImageSpec};
 pub use fault::MachineFault;
+pub use keys::is_of_version_2;
 pub use lists::{ByteList, FileName, ImageSpecs, Key};
 pub use reader::read_machine;

@@ -7,7 +7,7 @@ use crate::description::Description;
 use crate::fault::MachineFault;
 use crate::fields::{check_version, read_numbers};
 use crate::images::read_images;
-use crate::keys::{Table, key};
+use crate::keys::{key, table_of, version_of};
 use serde_json::Value;
 use std::alloc::Global;
 
@@ -23,7 +23,11 @@ pub fn read_machine(alloc: Global, bytes: &[u8]) -> Result<Description, MachineF
     check_version(alloc, &description)?;
     let machine = read_numbers(alloc, &description)?;
     let images = read_images(alloc, &description, machine.nodes())?;
-    Ok(Description { machine, images })
+    Ok(Description {
+        machine,
+        images,
+        version: version_of(&description),
+    })
 }
 
 /// The value of a text, where the bytes are UTF-8 and JSON.
@@ -54,7 +58,7 @@ fn check_keys(alloc: Global, description: &Value) -> Result<(), MachineFault>
     let Some(members) = description.as_object() else {
         return Err(MachineFault::NotObject);
     };
-    match Table::Description.unknown_in(members) {
+    match table_of(description).unknown_in(members) {
         Some(name) => Err(MachineFault::Unknown(key(alloc, name)?)),
         None => Ok(()),
     }

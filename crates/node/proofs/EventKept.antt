@@ -1,8 +1,7 @@
 -- What an event as a whole keeps of its node, and that the wind tunnel is a simulation.
-use Rattle.std.proofs.Common.{◌≡◌, ◌≢◌, ℕ, zero, suc, ◌+◌, ◌*◌, ◌^◌, ◌<◌, ◌≤◌, Bool, true, false, cond, List, [], ◌∷◌, length, Option, Some, None, refl, ap, sym, ◌∙◌, subst, arith}
-use Rattle.std.specs.Prelude.{All, ◌==◌, map}
+use Rattle.std.proofs.Common.{◌≡◌, ◌≢◌, ℕ, zero, suc, ◌+◌, ◌*◌, ◌^◌, ◌<◌, ◌≤◌, Bool, true, false, List, [], ◌∷◌, length, Option, Some, None, refl, ap, sym, ◌∙◌, subst, arith}
+use Rattle.std.specs.Prelude.{All, map}
 use Rattle.std.specs.List.{AllByRecursion}
-use Rattle.std.proofs.lemmas.Bool.{eqb-true}
 use Rattle.std.proofs.lemmas.List.Elements.{All-push}
 use Rattle.std.specs.declared.cmp.Ordering.TheVariants.{Less}
 use Rattle.wt_params.specs.declared.parts.MachineParts.{MachineParts}
@@ -16,7 +15,9 @@ use Rattle.wt_proto.specs.declared.mode.Mode.{Mode}
 use Rattle.wt_proto.specs.declared.mode.Mode.TheVariants.{Running, Waiting, InBarrier, Stopped}
 use Rattle.wt_proto.specs.KeyOrder.{key_cmp}
 use Rattle.wt_proto.specs.Messages.{MsgFits, StampedFits}
-use Rattle.wt_network.specs.Latency.{stamp_of}
+use Rattle.wt_params.specs.Mesh.{lookahead_of}
+use Rattle.wt_params.proofs.MeshLaws.{latency_positive, none_before}
+use Rattle.wt_network.specs.Stamps.{stamp_of}
 use Rattle.wt_trace.specs.declared.record.Record.{Record}
 use Rattle.wt_trace.specs.declared.record.What.{What}
 use Rattle.wt_trace.specs.EventLine.{WhatFits, RecordFits}
@@ -195,13 +196,13 @@ ended_is_node machine time least begun key what handled went room its_own = reco
       (record { what = its_own; sends = stamps_fit machine time handled.node.number handled.node.counters.sent handled.sends went.sound.number went.sends }) went.sound.logged;
 }
 
--- every message is sent at its event or later, and comes later; to another node by the latency
-stamp_later : (machine : MachineParts) (from to at time : ℕ) → IsMachine machine → time ≤ at → (time < stamp_of machine from to at) × ((to ≢ from) → time + machine.latency ≤ stamp_of machine from to at)
-stamp_later machine from to at time is no_earlier = by (from == to) refl
-  where
-    by : (same : Bool) → (from == to) ≡ same → (time < at + cond same machine.self_latency machine.latency) × ((to ≢ from) → time + machine.latency ≤ at + cond same machine.self_latency machine.latency)
-    by true e = (let l = is.self_latency.at_least in omega arith, λ apart. absurd (apart (sym (eqb-true from to e))))
-    by false e = (let l = is.latency.at_least in omega arith, λ apart. omega arith)
+-- every message is sent at its event or later, and comes later; to another node by the lookahead
+stamp_later : (machine : MachineParts) (from to at time : ℕ) → IsMachine machine → time ≤ at → (time < stamp_of machine from to at) × ((to ≢ from) → time + lookahead_of machine ≤ stamp_of machine from to at)
+stamp_later machine from to at time is no_earlier =
+    let least = latency_positive machine from to is in (
+      omega arith,
+      λ apart. let late = none_before machine from to (λ same. apart (sym same)) in omega arith,
+    )
 
 pub all_sent : (machine : MachineParts) (node : NodeState) (key : Key) (from sequence : ℕ) (sends : List Send) → IsMachine machine → from ≡ node.number → from < machine.nodes → All (SendFits machine key.time) sends →
     AllByRecursion (IsSent (wind_tunnel machine) (Fits machine) node key) (map message_under_key (stamped_from machine from sequence sends))
@@ -363,7 +364,7 @@ machines_are_simulations machine is = record {
     counts node key (Arrival message) sound due = counts_message machine is node key sound message due
 
 -- the messages of an event may be stamped
-times_few : (nodes events limit : ℕ) → nodes ≤ 32 → events ≤ limit → limit ≤ 2 ^ 40 → (nodes + 1) * events ≤ 33 * 2 ^ 40
+times_few : (nodes events limit : ℕ) → nodes ≤ 256 → events ≤ limit → limit ≤ 2 ^ 40 → (nodes + 1) * events ≤ 257 * 2 ^ 40
 times_few nodes events limit few below most = grind arith
 
 pub may_stamp : (machine : MachineParts) (time least : ℕ) (begun : NodeState) (handled : Handled) → Went machine time least begun handled → MayStamp machine handled.node handled.sends

@@ -26,7 +26,7 @@ pub record HasRoom (machine : MachineParts) (counters : Counters) : Type 0 where
   pub checkins : counters.checkins < counters.steps + counters.messages
   pub invs : counters.invs < counters.steps + counters.messages
   pub traps : counters.traps < counters.steps + counters.messages
-  pub trap_cycles : counters.trap_cycles + 2 ^ 18 ≤ 2 ^ 18 * (counters.steps + counters.messages)
+  pub trap_cycles : counters.trap_cycles + 2 ^ 21 ≤ 2 ^ 21 * (counters.steps + counters.messages)
   pub barriers : counters.barriers < counters.steps + counters.messages
   pub stray : counters.stray < counters.steps + counters.messages
   pub sent : counters.sent + (machine.nodes + 1) ≤ (machine.nodes + 1) * (counters.steps + counters.messages)
@@ -38,7 +38,7 @@ pub record HasBegun (machine : MachineParts) (seen : ℕ) (node : NodeState) : T
   pub aligned : node.pc % 4 ≡ 0
   pub private : length node.private ≡ machine.private_bytes
   pub ready : node.ready < 2 ^ 41
-  pub busy : node.busy + 2 ^ 18 ≤ 2 ^ 40 + 2 ^ 18 * events_of node
+  pub busy : node.busy + 2 ^ 21 ≤ 2 ^ 40 + 2 ^ 21 * events_of node
   pub counts : HasRoom machine node.counters
   pub cache : CacheFits machine node.cache
   pub seen_before : seen ≤ node.counters.messages

@@ -264,7 +264,7 @@ module _ (machine : MachineParts) (time seen : ℕ) (old : NodeState) (is : HasB
           (λ k d below. let one = is.directory.blocks k d below in record { copies = let c = one.copies in omega arith; home_fits = one.home_fits });
     }
 
-    sound_after : (busy : ℕ) (counters : Counters) → busy ≤ 2 ^ 40 + 2 ^ 18 * (counters.steps + counters.messages) → CountsFit machine counters → counters.messages ≡ old.counters.messages →
+    sound_after : (busy : ℕ) (counters : Counters) → busy ≤ 2 ^ 40 + 2 ^ 21 * (counters.steps + counters.messages) → CountsFit machine counters → counters.messages ≡ old.counters.messages →
         IsNode machine (record old { busy = busy; directory = with_block msg.block (row_of old.directory from msg).home old.directory; counters = counters })
     sound_after busy counters most counts messages = record {
       numbers = is.numbers;

@@ -26,11 +26,11 @@ few_targets nodes (One node) = omega arith
 times : (a b m n : ℕ) → a ≤ m → b ≤ n → a * b ≤ m * n
 times a b m n at bt = grind arith
 
-pub few_cycles : (machine : MachineParts) (plan : TrapPlan) → IsMachine machine → trap_cycles_of machine plan ≤ 2 ^ 18
+pub few_cycles : (machine : MachineParts) (plan : TrapPlan) → IsMachine machine → trap_cycles_of machine plan ≤ 2 ^ 21
 few_cycles machine plan is =
     let few = few_targets machine.nodes plan.targets in
     let nodes = is.nodes.at_most in
     let each = is.costs.trap_each.at_most in
     let one = is.costs.trap.at_most in
-    let all = times machine.costs.trap_each (length (targets_of machine.nodes plan.targets)) 4096 33 each (omega arith) in
+    let all = times machine.costs.trap_each (length (targets_of machine.nodes plan.targets)) 4096 257 each (omega arith) in
     omega arith

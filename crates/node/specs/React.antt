@@ -7,7 +7,8 @@ use Rattle.wt_proto.specs.declared.message.Body.TheVariants.{DataS, DataX, Inv, 
 use Rattle.wt_proto.specs.declared.message.Msg.{Msg}
 use Rattle.wt_proto.specs.declared.message.Stamped.{Stamped}
 use Rattle.wt_proto.specs.Messages.{key_of}
-use Rattle.wt_network.specs.Latency.{stamp_of}
+use Rattle.wt_params.specs.Mesh.{lookahead_of}
+use Rattle.wt_network.specs.Stamps.{stamp_of}
 use Rattle.wt_trace.specs.declared.record.Record.{Record}
 use Rattle.wt_trace.specs.declared.record.What.{What}
 use Rattle.wt_trace.specs.declared.record.What.TheVariants as whats
@@ -133,14 +134,13 @@ record_of machine node (Arrival message) =
 abbrev pub message_under_key : Stamped → Message Msg
 message_under_key message = (key_of message, message.msg)
 
--- The least time to another node is the latency.
 abbrev pub wind_tunnel : MachineParts → Simulation NodeState Msg
 wind_tunnel machine = record {
   nodes = machine.nodes;
   event_limit = machine.event_limit;
   budget = machine.budget;
   quantum = machine.quantum;
-  lookahead = machine.latency;
+  lookahead = lookahead_of machine;
   number = λ node. node.number;
   handled = events_of;
   last = λ node. node.last;

@@ -54,7 +54,7 @@ pub record BarrierFits (machine : MachineParts) (barrier : Barrier) : Type 0 whe
 
 -- The barrier opens for no more nodes than a machine may have.
 abbrev pub IsFew : Release → Type 0
-IsFew (Go nodes) = length nodes ≤ 32
+IsFew (Go nodes) = length nodes ≤ 256
 IsFew _ = ⊤
 
 -- No event counts more than one of anything but sends and the cycles of traps.
@@ -68,7 +68,7 @@ pub record CountsFit (machine : MachineParts) (counters : Counters) : Type 0 whe
   pub checkins : counters.checkins ≤ counters.steps + counters.messages
   pub invs : counters.invs ≤ counters.steps + counters.messages
   pub traps : counters.traps ≤ counters.steps + counters.messages
-  pub trap_cycles : counters.trap_cycles ≤ 2 ^ 18 * (counters.steps + counters.messages)
+  pub trap_cycles : counters.trap_cycles ≤ 2 ^ 21 * (counters.steps + counters.messages)
   pub barriers : counters.barriers ≤ counters.steps + counters.messages
   pub stray : counters.stray ≤ counters.steps + counters.messages
   pub sent : counters.sent ≤ (machine.nodes + 1) * (counters.steps + counters.messages)
@@ -138,7 +138,7 @@ pub record IsNode (machine : MachineParts) (node : NodeState) : Type 0 where
   pub aligned : node.pc % 4 ≡ 0
   pub private : length node.private ≡ machine.private_bytes
   pub ready : node.ready < 2 ^ 41
-  pub busy : node.busy ≤ 2 ^ 40 + 2 ^ 18 * events_of node
+  pub busy : node.busy ≤ 2 ^ 40 + 2 ^ 21 * events_of node
   pub counts : CountsFit machine node.counters
   pub cache : CacheFits machine node.cache
   pub directory : DirectoryFits machine node.number node.counters.messages node.directory

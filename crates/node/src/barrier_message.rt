@@ -103,7 +103,7 @@ impl NodeState {
 
 /// Go to each node of a set, in rising order.
 fn send_go(time: u64, nodes: &NodeSet, sends: &mut SendList) -> Result<(), NoMemory>
-    requires { length nodes.now ≤ 32 }
+    requires { length nodes.now ≤ 256 }
     ensures { OnOk result (sends.new ≡ sends.old ++ go_to time nodes.now) }
 {
     let mut i = 0;

@@ -58,9 +58,9 @@ impl NodeState {
     ) -> Result<Course, NoMemory>
         requires numbers { IsMachine machine.now }
         requires time { time < 2 ^ 40 }
-        requires busy { self.old.busy < 2 ^ 61 }
+        requires busy { self.old.busy < 2 ^ 62 }
         requires traps { self.old.counters.traps < 2 ^ 62 }
-        requires cycles { self.old.counters.trap_cycles < 2 ^ 61 }
+        requires cycles { self.old.counters.trap_cycles < 2 ^ 62 }
         ensures { IfOk result (λ course. IsHandled (trap_of machine.now time plan.now sends.old self.old) self.new [] sends.new course) }
     {
         let mut out = sends.lend(alloc);

@@ -221,6 +221,7 @@ impl NodeState {
     }
 
     /// Stamps and counts the messages of an event, and moves them to `out`.
+    #[inline(always)]
     fn send_off(
         &mut self,
         machine: &Machine,
@@ -243,7 +244,9 @@ impl NodeState {
     }
 }
 
-/// Stamps messages, numbered from `sequence` on, and moves them to `out`.
+/// Stamps messages, numbered from `sequence` on, and moves them to `out`. A function of its own, so that an event
+/// without messages doesn't pay for the room that one takes.
+#[inline(never)]
 fn send_stamped(
     machine: &Machine,
     from: u32,

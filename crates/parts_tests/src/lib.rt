@@ -16,6 +16,8 @@ mod directory;
 #[cfg(test)]
 mod execution;
 #[cfg(test)]
+mod mesh;
+#[cfg(test)]
 mod numbers;
 #[cfg(test)]
 mod private_memory;

@@ -13,7 +13,7 @@ fn a_machine_and_its_first_fault(rt: HostRuntime) -> Result<(), Fail> {
     assert!(rt; machine.block_address(3) == 0x8000_00c0);
     assert!(rt; machine.block_at(0x8000_00ff) == Some(3));
     let fields = Field::all();
-    assert!(rt; fields[0].key() == "nodes" && fields[19].key() == "costs.trap_each");
+    assert!(rt; fields[0].key() == "nodes" && fields[22].key() == "costs.trap_each");
     assert!(rt; parts.number(Field::BlockBytes) == 64);
     parts.sets = 1024;
     parts.ways = 8;

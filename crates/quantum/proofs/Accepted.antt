@@ -20,7 +20,6 @@ use Rattle.quantum.specs.declared.site.Site.{Site}
 use Rattle.quantum.specs.Sites.{IsSite}
 use Rattle.quantum.specs.Stations.{StationModel, IsLive, IsPast, MayAccept, accept_of, machine_of, pending_of}
 use Rattle.event_queue.specs.Rising.{IsRising, HasNoKey, insert_of}
-use Rattle.wt_proto.specs.declared.message.Back.{Back}
 use Rattle.quantum.proofs.Pending.{none_waits, no_key, pending-insert}
 
 -- a message that comes no earlier than a time that was come to is after the last event
@@ -120,12 +119,12 @@ module _ (node : NodeModel) (until : ℕ) (broken : Bool) (queue after : List St
       let inserted = ap pending_of is ∙ pending-insert message queue rising (subst IsRising is rises) (new_key may) in
       λ i. record { node = node; pending = inserted i; until = until; broken = broken }
 
-  pub accepts_live : (result : Result (Unit {0}) Back) → OnOk result (after ≡ insert_of message queue) → OnErr result (after ≡ queue) → IsLive (with_queue node until broken queue) → MayAccept (with_queue node until broken queue) message →
+  pub accepts_live : (result : Result (Unit {0}) Stamped) → OnOk result (after ≡ insert_of message queue) → OnErr result (after ≡ queue) → IsLive (with_queue node until broken queue) → MayAccept (with_queue node until broken queue) message →
       IsLive (with_queue node until broken after)
   accepts_live (Ok done) ok err is may = subst IsLive (sym (accepts may ok)) (accepted message (with_queue node until broken queue) is may)
   accepts_live (Err back) ok err is may = subst (λ q. IsLive (with_queue node until broken q)) (sym err) is
 
-  pub accepts_ok : (result : Result (Unit {0}) Back) → OnOk result (after ≡ insert_of message queue) → MayAccept (with_queue node until broken queue) message →
+  pub accepts_ok : (result : Result (Unit {0}) Stamped) → OnOk result (after ≡ insert_of message queue) → MayAccept (with_queue node until broken queue) message →
       OnOk result (with_queue node until broken after ≡ accept_of message (with_queue node until broken queue))
   accepts_ok (Ok done) ok may = accepts may ok
   accepts_ok (Err back) ok may = tt

@@ -6,7 +6,7 @@ use event_queue::{Queue, Steps};
 use std::alloc::Global;
 use std::marker::Model;
 use std::sync::ledger::Ledger;
-use wt_proto::{Back, Key, Letter, Stamped};
+use wt_proto::{Key, Letter};
 
 /// A queue, and how many messages it has. Contracts see the list of its messages.
 #[derive(Debug, Drop)]
@@ -49,24 +49,28 @@ impl CountedQueue {
     /// Puts a message in its place by its key. Where memory is refused, the message comes back and the queue stays
     /// as it was.
     #[inline(always)]
-    pub fn insert<L: Ledger>(&mut self, message: Stamped, steps: &mut Steps<L>) -> Result<(), Back>
+    pub fn insert_letter<L: Ledger>(
+        &mut self,
+        message: Letter,
+        steps: &mut Steps<L>,
+    ) -> Result<(), Letter>
         requires new_key { HasNoKey (key_of message) self.old }
         ensures ok { OnOk result (self.new ≡ insert_of message self.old) }
-        ensures back { IfErr result (λ back. back.message ≡ message) }
+        ensures back { IfErr result (λ back. back ≡ message) }
         ensures err { OnErr result (self.new ≡ self.old) }
         ensures rising { IsRising self.new }
         ensures step { OnOk result (steps.new ≡ steps.old + 1) }
         ensures bound { steps.new ≤ steps.old + 1 }
     {
         if self.count == u64::MAX {
-            return Err(Back { message });
+            return Err(message);
         }
-        match self.queue.insert(message, steps) {
+        match self.queue.insert_letter(message, steps) {
             Ok(()) => {
                 self.count += 1;
                 Ok(())
             }
-            Err(back) => Err(back),
+            Err(message) => Err(message),
         }
     }
 
@@ -94,13 +98,5 @@ impl CountedQueue {
                 Some(letter)
             }
         }
-    }
-
-    /// Gives the place of a message that was handled back, to be used again.
-    #[inline(always)]
-    pub fn give_back(&mut self, letter: Letter)
-        ensures { self.new ≡ self.old }
-    {
-        self.queue.give_back(letter);
     }
 }

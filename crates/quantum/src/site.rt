@@ -146,7 +146,7 @@ impl Site {
             None => Ok(()),
             Some(letter) => {
                 let result = self.node.handle_message(letter.message(), sends);
-                self.queue.give_back(letter);
+                sends.give_back(letter);
                 result
             }
         }
@@ -192,9 +192,9 @@ impl Site {
         let number = self.node.number();
         while let Some(message) = outs.get(place) {
             if message.to == number {
-                match outs.remove(place) {
+                match outs.remove_letter(place) {
                     None => return Ok(own),
-                    Some(taken) => match self.queue.insert(taken, steps) {
+                    Some(taken) => match self.queue.insert_letter(taken, steps) {
                         Ok(()) => own = true,
                         Err(_back) => return Err(NoMemory),
                     },

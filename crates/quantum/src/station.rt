@@ -14,7 +14,7 @@ use std::alloc::Global;
 use std::marker::Model;
 use std::sync::ledger::Ledger;
 use wt_params::{Machine, NoMemory};
-use wt_proto::{Back, Stamped, StampedList};
+use wt_proto::{Back, Letter, Stamped, StampedList};
 
 /// The messages that a node has sent to other nodes, in order of sending.
 pub type Outs = StampedList;
@@ -190,9 +190,34 @@ impl Station {
         ensures err { OnErr result (self.new ≡ self.old) }
         ensures step { steps.new ≤ steps.old + 1 }
     {
-        if self.broken {
-            return Err(Back { message });
+        match Letter::new(self.alloc, message) {
+            Err(back) => Err(back),
+            Ok(letter) => match self.accept_letter(letter, steps) {
+                Ok(()) => Ok(()),
+                Err(letter) => Err(Back {
+                    message: letter.into_message(),
+                }),
+            },
         }
-        self.site.queue.insert(message, steps)
+    }
+
+    /// The same with a message that has its place.
+    pub fn accept_letter<L: Ledger>(
+        &mut self,
+        message: Letter,
+        steps: &mut Steps<L>,
+    ) -> Result<(), Letter>
+        requires { MayAccept self.old message }
+        ensures ok { OnOk result (self.new ≡ accept_of message self.old) }
+        ensures unbroken { OnOk result (IsUnbroken self.old) }
+        ensures live { IsUnbroken self.new → IsLive self.new }
+        ensures back { IfErr result (λ back. back ≡ message) }
+        ensures err { OnErr result (self.new ≡ self.old) }
+        ensures step { steps.new ≤ steps.old + 1 }
+    {
+        if self.broken {
+            return Err(message);
+        }
+        self.site.queue.insert_letter(message, steps)
     }
 }

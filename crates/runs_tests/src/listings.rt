@@ -14,7 +14,10 @@ fn a_machine_is_shown(rt: HostRuntime) -> Result<(), Fail> {
     let machine = one_node();
     let loaded = program(alloc, &machine, &[])?.ok_or("not loaded")?;
     let mut sink = MemSink::new(alloc, 4096, Vec::new(alloc), 0)?;
-    assert_eq!(rt; write_machine(alloc, &machine, &loaded, &mut sink), Ok(()));
+    assert_eq!(rt;
+        write_machine(alloc, 1, &machine, &loaded, &mut sink),
+        Ok(())
+    );
     let begin = b"version 1\nnodes 1\nprivate_bytes 4096\n";
     assert!(rt; sink.bytes().starts_with(begin));
     Ok(())

@@ -28,6 +28,9 @@ pub fn small_parts(nodes: u64) -> MachineParts
         ways: 1,
         latency: 100,
         self_latency: 10,
+        hop: 0,
+        width: nodes,
+        pointers: 0,
         quantum: 100,
         event_limit: 1000,
         budget: 1000,
@@ -48,7 +51,7 @@ pub fn machine_with(parts: MachineParts) -> Machine
 
 /// The small machine of so many nodes.
 pub fn machine_of(nodes: u64) -> Machine
-    requires { InRange 1 32 nodes }
+    requires { InRange 1 256 nodes }
     ensures { result ≡ small_machine nodes }
 {
     machine_with(small_parts(nodes))

@@ -1,1 +1,1 @@
-pub mod Latency
+pub mod Stamps

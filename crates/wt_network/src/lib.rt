@@ -1,7 +1,6 @@
-//! The network of the simulated machine: how long a message is under way, and the least of these times between two
-//! nodes.
+//! The network of the simulated machine: when a message arrives, and for how long none comes to another node.
 #![tactic(auto)]
 
-mod latency;
+mod stamps;
 
-pub use latency::{lookahead, stamp};
+pub use stamps::{lookahead, stamp};

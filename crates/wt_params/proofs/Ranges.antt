@@ -5,7 +5,7 @@ use Rattle.std.proofs.lemmas.Bool.{and_parts, or_cases, leb-true, le-leb}
 use mathlib.Core.Logic.{inl, inr}
 use Rattle.wt_params.specs.declared.parts.MachineParts.{MachineParts}
 use Rattle.wt_params.specs.declared.parts.Field.{Field}
-use Rattle.wt_params.specs.declared.parts.Field.TheVariants.{Nodes, PrivateBytes, BlockBytes, Blocks, Sets, Ways, Latency, SelfLatency, Quantum, EventLimit, Budget, Op, Taken, Mem, Hit, Cico, Call, Fill, Trap, TrapEach}
+use Rattle.wt_params.specs.declared.parts.Field.TheVariants.{Nodes, PrivateBytes, BlockBytes, Blocks, Sets, Ways, Latency, SelfLatency, Hop, Width, Pointers, Quantum, EventLimit, Budget, Op, Taken, Mem, Hit, Cico, Call, Fill, Trap, TrapEach}
 use Rattle.wt_params.specs.Machine.{InRange, IsMachine, IsBlockSize}
 use Rattle.wt_params.specs.Fields.{fields, is_within, is_in_range, fault_at, fault_of}
 
@@ -68,19 +68,22 @@ ranges_from_none machine none =
       lines = leb-true _ _ ways.1;
       latency = within _ _ _ (passed 6 Latency refl);
       self_latency = within _ _ _ (passed 7 SelfLatency refl);
-      quantum = within _ _ _ (passed 8 Quantum refl);
-      event_limit = within _ _ _ (passed 9 EventLimit refl);
-      budget = within _ _ _ (passed 10 Budget refl);
+      hop = within _ _ _ (passed 8 Hop refl);
+      width = within _ _ _ (passed 9 Width refl);
+      pointers = within _ _ _ (passed 10 Pointers refl);
+      quantum = within _ _ _ (passed 11 Quantum refl);
+      event_limit = within _ _ _ (passed 12 EventLimit refl);
+      budget = within _ _ _ (passed 13 Budget refl);
       costs = record {
-        op = within _ _ _ (passed 11 Op refl);
-        taken = within _ _ _ (passed 12 Taken refl);
-        mem = within _ _ _ (passed 13 Mem refl);
-        hit = within _ _ _ (passed 14 Hit refl);
-        cico = within _ _ _ (passed 15 Cico refl);
-        call = within _ _ _ (passed 16 Call refl);
-        fill = within _ _ _ (passed 17 Fill refl);
-        trap = within _ _ _ (passed 18 Trap refl);
-        trap_each = within _ _ _ (passed 19 TrapEach refl);
+        op = within _ _ _ (passed 14 Op refl);
+        taken = within _ _ _ (passed 15 Taken refl);
+        mem = within _ _ _ (passed 16 Mem refl);
+        hit = within _ _ _ (passed 17 Hit refl);
+        cico = within _ _ _ (passed 18 Cico refl);
+        call = within _ _ _ (passed 19 Call refl);
+        fill = within _ _ _ (passed 20 Fill refl);
+        trap = within _ _ _ (passed 21 Trap refl);
+        trap_each = within _ _ _ (passed 22 TrapEach refl);
       };
     }
 
@@ -103,6 +106,9 @@ passes machine h Sets = tested _ _ _ h.sets
 passes machine h Ways = both _ _ (tested _ _ _ h.ways) (le-leb _ _ h.lines)
 passes machine h Latency = tested _ _ _ h.latency
 passes machine h SelfLatency = tested _ _ _ h.self_latency
+passes machine h Hop = tested _ _ _ h.hop
+passes machine h Width = tested _ _ _ h.width
+passes machine h Pointers = tested _ _ _ h.pointers
 passes machine h Quantum = tested _ _ _ h.quantum
 passes machine h EventLimit = tested _ _ _ h.event_limit
 passes machine h Budget = tested _ _ _ h.budget

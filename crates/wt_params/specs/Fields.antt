@@ -3,13 +3,14 @@ use Rattle.std.specs.Prelude.{ℕ, ◌*◌, ◌%◌, ◌^◌, ◌==◌, ◌&&◌
 use Rattle.wt_params.specs.declared.parts.MachineParts.{MachineParts}
 use Rattle.wt_params.specs.declared.parts.ParamFault.{ParamFault}
 use Rattle.wt_params.specs.declared.parts.Field.{Field}
-use Rattle.wt_params.specs.declared.parts.Field.TheVariants.{Nodes, PrivateBytes, BlockBytes, Blocks, Sets, Ways, Latency, SelfLatency, Quantum, EventLimit, Budget, Op, Taken, Mem, Hit, Cico, Call, Fill, Trap, TrapEach}
+use Rattle.wt_params.specs.declared.parts.Field.TheVariants.{Nodes, PrivateBytes, BlockBytes, Blocks, Sets, Ways, Latency, SelfLatency, Hop, Width, Pointers, Quantum, EventLimit, Budget, Op, Taken, Mem, Hit, Cico, Call, Fill, Trap, TrapEach}
+use Rattle.wt_params.specs.Mesh.{lookahead_of}
 
 -- the fields, in the order in which they are tested and told
 abbrev pub fields : List Field
 fields =
-    Nodes ∷ PrivateBytes ∷ BlockBytes ∷ Blocks ∷ Sets ∷ Ways ∷ Latency ∷ SelfLatency ∷ Quantum ∷ EventLimit ∷ Budget
-    ∷ Op ∷ Taken ∷ Mem ∷ Hit ∷ Cico ∷ Call ∷ Fill ∷ Trap ∷ TrapEach ∷ []
+    Nodes ∷ PrivateBytes ∷ BlockBytes ∷ Blocks ∷ Sets ∷ Ways ∷ Latency ∷ SelfLatency ∷ Hop ∷ Width ∷ Pointers
+    ∷ Quantum ∷ EventLimit ∷ Budget ∷ Op ∷ Taken ∷ Mem ∷ Hit ∷ Cico ∷ Call ∷ Fill ∷ Trap ∷ TrapEach ∷ []
 
 -- the number that a machine has in a field
 abbrev pub number_of : MachineParts → Field → ℕ
@@ -21,6 +22,9 @@ number_of machine Sets = machine.sets
 number_of machine Ways = machine.ways
 number_of machine Latency = machine.latency
 number_of machine SelfLatency = machine.self_latency
+number_of machine Hop = machine.hop
+number_of machine Width = machine.width
+number_of machine Pointers = machine.pointers
 number_of machine Quantum = machine.quantum
 number_of machine EventLimit = machine.event_limit
 number_of machine Budget = machine.budget
@@ -39,9 +43,9 @@ abbrev pub is_within : ℕ → ℕ → ℕ → Bool
 is_within least greatest value = nat_le least value && nat_le value greatest
 
 -- A machine's number is in the range of its field. Of the ways the lines of a cache count, too, and a quantum is no
--- longer than the latency.
+-- longer than the lookahead.
 abbrev pub is_in_range : MachineParts → Field → Bool
-is_in_range machine Nodes = is_within 1 32 machine.nodes
+is_in_range machine Nodes = is_within 1 256 machine.nodes
 is_in_range machine PrivateBytes =
     is_within 4096 4194304 machine.private_bytes && (machine.private_bytes % 4096 == 0)
 is_in_range machine BlockBytes =
@@ -52,7 +56,10 @@ is_in_range machine Sets = is_within 1 1024 machine.sets
 is_in_range machine Ways = is_within 1 8 machine.ways && nat_le (machine.sets * machine.ways) 4096
 is_in_range machine Latency = is_within 1 10000 machine.latency
 is_in_range machine SelfLatency = is_within 1 10000 machine.self_latency
-is_in_range machine Quantum = is_within 1 machine.latency machine.quantum
+is_in_range machine Hop = is_within 0 100 machine.hop
+is_in_range machine Width = is_within 1 256 machine.width
+is_in_range machine Pointers = is_within 0 4 machine.pointers
+is_in_range machine Quantum = is_within 1 (lookahead_of machine) machine.quantum
 is_in_range machine EventLimit = is_within 1 (2 ^ 40) machine.event_limit
 is_in_range machine Budget = is_within 1 (2 ^ 40) machine.budget
 is_in_range machine Op = is_within 1 4096 machine.costs.op
@@ -96,6 +103,9 @@ key_of Sets = codes "sets"
 key_of Ways = codes "ways"
 key_of Latency = codes "latency"
 key_of SelfLatency = codes "self_latency"
+key_of Hop = codes "hop"
+key_of Width = codes "width"
+key_of Pointers = codes "pointers"
 key_of Quantum = codes "quantum"
 key_of EventLimit = codes "event_limit"
 key_of Budget = codes "budget"

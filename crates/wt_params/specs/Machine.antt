@@ -2,6 +2,7 @@
 use Rattle.std.specs.Prelude.{◌≡◌, ℕ, ◌+◌, ◌-◌, ◌*◌, ◌/◌, ◌%◌, ◌^◌, ◌≤◌, ◌⊎◌, nat_le, nat_lt, ◌&&◌, if◌then◌else◌, Option, Some, None}
 use Rattle.wt_params.specs.declared.parts.CostParts.{CostParts}
 use Rattle.wt_params.specs.declared.parts.MachineParts.{MachineParts}
+use Rattle.wt_params.specs.Mesh.{lookahead_of}
 
 -- from the least to the greatest, both among them
 pub record InRange (least greatest value : ℕ) : Type 0 where
@@ -28,7 +29,7 @@ pub record AreCosts (costs : CostParts) : Type 0 where
   pub trap_each : InRange 0 4096 costs.trap_each
 
 pub record IsMachine (machine : MachineParts) : Type 0 where
-  pub nodes : InRange 1 32 machine.nodes
+  pub nodes : InRange 1 256 machine.nodes
   pub private_bytes : IsPrivateSize machine.private_bytes
   pub block_bytes : IsBlockSize machine.block_bytes
   pub blocks : InRange 0 65536 machine.blocks
@@ -37,7 +38,10 @@ pub record IsMachine (machine : MachineParts) : Type 0 where
   pub lines : machine.sets * machine.ways ≤ 4096
   pub latency : InRange 1 10000 machine.latency
   pub self_latency : InRange 1 10000 machine.self_latency
-  pub quantum : InRange 1 machine.latency machine.quantum
+  pub hop : InRange 0 100 machine.hop
+  pub width : InRange 1 256 machine.width
+  pub pointers : InRange 0 4 machine.pointers
+  pub quantum : InRange 1 (lookahead_of machine) machine.quantum
   pub event_limit : InRange 1 (2 ^ 40) machine.event_limit
   pub budget : InRange 1 (2 ^ 40) machine.budget
   pub costs : AreCosts machine.costs
@@ -72,6 +76,9 @@ flat_machine = record {
   ways = 1;
   latency = 1;
   self_latency = 1;
+  hop = 0;
+  width = 1;
+  pointers = 0;
   quantum = 1;
   event_limit = 4294967296;
   budget = 1000000;

@@ -1,10 +1,11 @@
-ghost use Rattle.std.specs.Prelude.{◌≡◌};
+ghost use Rattle.std.specs.Prelude.{◌≡◌, ◌-◌, ◌^◌, min};
 ghost use Rattle.wt_params.specs.Fields.{fields, number_of, is_in_range, fault_among, fault_of, key_of};
+ghost use Rattle.wt_params.specs.Mesh.{lookahead_of};
 
 use crate::parts::{Field, MachineParts, ParamFault};
 
 /// The fields, in the order in which they are tested and told.
-const FIELDS: [Field; 20] = [
+const FIELDS: [Field; 23] = [
     Field::Nodes,
     Field::PrivateBytes,
     Field::BlockBytes,
@@ -13,6 +14,9 @@ const FIELDS: [Field; 20] = [
     Field::Ways,
     Field::Latency,
     Field::SelfLatency,
+    Field::Hop,
+    Field::Width,
+    Field::Pointers,
     Field::Quantum,
     Field::EventLimit,
     Field::Budget,
@@ -29,7 +33,7 @@ const FIELDS: [Field; 20] = [
 
 impl Field {
     /// All fields, in the order in which they are tested and told.
-    pub fn all() -> [Field; 20]
+    pub fn all() -> [Field; 23]
         ensures { result ≡ fields }
     {
         FIELDS
@@ -48,6 +52,9 @@ impl Field {
             Field::Ways => "ways",
             Field::Latency => "latency",
             Field::SelfLatency => "self_latency",
+            Field::Hop => "hop",
+            Field::Width => "width",
+            Field::Pointers => "pointers",
             Field::Quantum => "quantum",
             Field::EventLimit => "event_limit",
             Field::Budget => "budget",
@@ -78,6 +85,9 @@ impl MachineParts {
             Field::Ways => self.ways,
             Field::Latency => self.latency,
             Field::SelfLatency => self.self_latency,
+            Field::Hop => self.hop,
+            Field::Width => self.width,
+            Field::Pointers => self.pointers,
             Field::Quantum => self.quantum,
             Field::EventLimit => self.event_limit,
             Field::Budget => self.budget,
@@ -93,20 +103,30 @@ impl MachineParts {
         }
     }
 
+    /// The least time that a message takes to another node, or 2^64 - 1 where it doesn't fit.
+    pub fn lookahead(&self) -> u64
+        ensures { result ≡ min (lookahead_of self.now) (2 ^ 64 - 1) }
+    {
+        let hops = if self.nodes <= 1 { 0 } else { self.hop };
+        self.latency.saturating_add(hops)
+    }
+
     /// Whether the number in a field is in the field's range.
     fn is_in_range(&self, field: Field) -> bool
         ensures { result ≡ is_in_range self.now field }
     {
         let value = self.number(field);
         match field {
-            Field::Nodes => (1..=32).contains(&value),
+            Field::Nodes | Field::Width => (1..=256).contains(&value),
             Field::PrivateBytes => (4096..=4_194_304).contains(&value) && value % 4096 == 0,
             Field::BlockBytes => value == 16 || value == 32 || value == 64 || value == 128,
             Field::Blocks => value <= 65536,
             Field::Sets => (1..=1024).contains(&value),
             Field::Ways => (1..=8).contains(&value) && self.sets.saturating_mul(value) <= 4096,
             Field::Latency | Field::SelfLatency => (1..=10000).contains(&value),
-            Field::Quantum => (1..=self.latency).contains(&value),
+            Field::Hop => value <= 100,
+            Field::Pointers => value <= 4,
+            Field::Quantum => (1..=self.lookahead()).contains(&value),
             Field::EventLimit | Field::Budget => (1..=1 << 40).contains(&value),
             Field::Op | Field::Taken | Field::Mem | Field::Hit | Field::Cico | Field::Call =>
                 (1..=4096).contains(&value),

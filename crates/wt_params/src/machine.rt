@@ -1,6 +1,7 @@
 ghost use Rattle.std.specs.Prelude.{◌≡◌, ◌↔◌, IsOk, ℕ, ◌+◌, ◌*◌, ◌%◌, ◌^◌, ◌<◌, ◌≤◌};
 ghost use Rattle.wt_params.specs.Machine.{InRange, IsMachine, IsPrivateSize, IsBlockSize, AreCosts, flat_machine, home_of, block_address, shared_block};
 ghost use Rattle.wt_params.specs.Fields.{machine_of};
+ghost use Rattle.wt_params.specs.Mesh.{lookahead_of};
 
 use crate::parts::{CostParts, MachineParts, ParamFault};
 use std::marker::Model;
@@ -29,7 +30,7 @@ impl Model for Machine {
 
 impl Machine {
     /// The machine of these numbers. Refused exactly where a number is outside its range: by the first such
-    /// field, in order, with its number. Of `ways` the product with `sets` counts, and `quantum` ends at `latency`.
+    /// field, in order, with its number. Of `ways` the product with `sets` counts, and `quantum` ends at the lookahead.
     pub fn new(parts: MachineParts) -> Result<Machine, ParamFault>
         ensures exact { result ≡ machine_of parts }
         ensures ranges { IsOk result ↔ IsMachine parts }
@@ -66,6 +67,9 @@ impl Machine {
                 ways: 1,
                 latency: 1,
                 self_latency: 1,
+                hop: 0,
+                width: 1,
+                pointers: 0,
                 quantum: 1,
                 event_limit: 4_294_967_296,
                 budget: 1_000_000,
@@ -85,7 +89,7 @@ impl Machine {
     /// How many nodes there are.
     pub fn nodes(&self) -> u64
         ensures value { result ≡ self.now.nodes }
-        ensures range { InRange 1 32 result }
+        ensures range { InRange 1 256 result }
     {
         self.parts.nodes
     }
@@ -131,7 +135,7 @@ impl Machine {
         self.parts.ways
     }
 
-    /// The cycles that a message takes to another node.
+    /// The cycles that a message takes to another node, however near.
     pub fn latency(&self) -> u64
         ensures value { result ≡ self.now.latency }
         ensures range { InRange 1 10000 result }
@@ -147,11 +151,36 @@ impl Machine {
         self.parts.self_latency
     }
 
+    /// The cycles that a message to another node takes beside, for each step of its way.
+    pub fn hop(&self) -> u64
+        ensures value { result ≡ self.now.hop }
+        ensures range { InRange 0 100 result }
+    {
+        self.parts.hop
+    }
+
+    /// How many nodes stand in a row of the mesh.
+    pub fn width(&self) -> u64
+        ensures value { result ≡ self.now.width }
+        ensures range { InRange 1 256 result }
+        ensures machine { IsMachine self.now }
+    {
+        self.parts.width
+    }
+
+    /// How many readers of a block a directory lists.
+    pub fn pointers(&self) -> u64
+        ensures value { result ≡ self.now.pointers }
+        ensures range { InRange 0 4 result }
+    {
+        self.parts.pointers
+    }
+
     /// The longest time that nodes run without looking at each other.
     pub fn quantum(&self) -> u64
         ensures value { result ≡ self.now.quantum }
-        ensures range { InRange 1 (self.now.latency) result }
-        ensures short { result ≤ 10000 }
+        ensures range { InRange 1 (lookahead_of self.now) result }
+        ensures short { result ≤ 10100 }
     {
         self.parts.quantum
     }

@@ -24,7 +24,7 @@ pub struct CostParts {
 /// The numbers of a machine, in or out of their ranges.
 #[derive(Clone, Copy, Debug, PartialEq, Eq)]
 pub struct MachineParts {
-    /// How many nodes there are. 1 to 32.
+    /// How many nodes there are. 1 to 256.
     pub nodes: u64,
     /// The bytes of each node's private memory. A multiple of 4096, from 4096 to 4194304.
     pub private_bytes: u64,
@@ -36,11 +36,17 @@ pub struct MachineParts {
     pub sets: u64,
     /// The ways of each set. 1 to 8, and `sets * ways` is at most 4096.
     pub ways: u64,
-    /// The cycles that a message takes to another node. 1 to 10000.
+    /// The cycles that a message takes to another node, however near. 1 to 10000.
     pub latency: u64,
     /// The cycles that a message takes to its own node. 1 to 10000.
     pub self_latency: u64,
-    /// The longest time that nodes run without looking at each other. 1 to `latency`.
+    /// The cycles that a message to another node takes beside, for each step of its way. 0 to 100.
+    pub hop: u64,
+    /// How many nodes stand in a row of the mesh. 1 to 256.
+    pub width: u64,
+    /// How many readers of a block a directory lists. 0 to 4.
+    pub pointers: u64,
+    /// The longest time that nodes run without looking at each other. 1 to the lookahead.
     pub quantum: u64,
     /// How many events a node handles at most. 1 to 2^40.
     pub event_limit: u64,
@@ -61,6 +67,9 @@ pub enum Field {
     Ways,
     Latency,
     SelfLatency,
+    Hop,
+    Width,
+    Pointers,
     Quantum,
     EventLimit,
     Budget,

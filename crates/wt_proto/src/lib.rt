@@ -10,6 +10,7 @@ mod letter;
 mod message;
 mod mode;
 mod node_set;
+mod stamped_list;
 
 pub use block::Block;
 pub use directory::{DirEntry, DirState, Request, Targets, TrapPlan, Waiting};
@@ -19,9 +20,7 @@ pub use letter::Letter;
 pub use message::{Back, Body, Msg, Outgoing, Stamped};
 pub use mode::{Cause, Mode};
 pub use node_set::{MOST_NODES, NodeSet};
+pub use stamped_list::StampedList;
 
 /// Messages that a node is about to send, in order.
 pub type Sends = Fifo<Outgoing>;
-
-/// Messages with their stamps, in order.
-pub type StampedList = Fifo<Stamped>;

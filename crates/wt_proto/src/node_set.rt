@@ -1,15 +1,15 @@
 ghost use Rattle.std.specs.Prelude.{◌≡◌, ◌<◌, [], slice_get};
-ghost use Rattle.wt_proto.specs.NodeSets.{has_node, with_node};
+ghost use Rattle.wt_proto.specs.NodeSets.{has_bit, has_node, with_node};
 
 use std::marker::Model;
 
 /// How many nodes a machine has at most: the greatest value of `nodes`.
-pub const MOST_NODES: usize = 32;
+pub const MOST_NODES: usize = 256;
 
-/// A set of nodes, kept in place. Contracts see it as the rising list of their numbers.
+/// A set of nodes, one bit for each, kept in place. Contracts see it as the rising list of their numbers.
 #[derive(Debug, Drop)]
 pub struct NodeSet {
-    members: [bool; MOST_NODES],
+    words: [u64; 4],
 }
 
 impl Model for NodeSet {
@@ -17,12 +17,12 @@ impl Model for NodeSet {
 
     ghost Value = { List ℕ };
 
-    ghost use Rattle.wt_proto.specs.NodeSets.{places_from};
+    ghost use Rattle.wt_proto.specs.NodeSets.{members_from};
     ghost use Rattle.wt_proto.specs.declared.node_set.TheConstants.{MOST_NODES};
 
-    ghost view = { λ set. places_from 0 set.members };
+    ghost view = { λ set. members_from 0 MOST_NODES set.words };
 
-    ghost invariant = { λ set. length set.members ≡ MOST_NODES };
+    ghost invariant = { λ set. length set.words ≡ 4 };
 }
 
 impl NodeSet {
@@ -30,9 +30,7 @@ impl NodeSet {
     pub fn new() -> NodeSet
         ensures { result ≡ [] }
     {
-        NodeSet {
-            members: [false; MOST_NODES],
-        }
+        NodeSet { words: [0; 4] }
     }
 
     /// Adds a node.
@@ -40,14 +38,14 @@ impl NodeSet {
         requires { node < MOST_NODES }
         ensures { self.new ≡ with_node node self.old }
     {
-        self.members[node as usize] = true;
+        self.words[(node / 64) as usize] |= 1 << (node % 64);
     }
 
     /// Whether a node is in the set.
     pub fn contains(&self, node: u32) -> bool
         ensures { result ≡ has_node self.now node }
     {
-        (node as usize) < MOST_NODES && self.members[node as usize]
+        (node as usize) < MOST_NODES && has_bit(&self.words, node)
     }
 
     /// A node by its place in rising order, counted from 0. None exactly from the end on.
@@ -55,15 +53,23 @@ impl NodeSet {
         ensures { result ≡ slice_get self.now i }
     {
         let mut left = i;
-        for node in 0..MOST_NODES {
-            if !self.members[node] {
+        for node in 0..MOST_NODES as u32 {
+            if !has_bit(&self.words, node) {
                 continue;
             }
             if left == 0 {
-                return Some(node as u32);
+                return Some(node);
             }
             left -= 1;
         }
         None
     }
+}
+
+/// Whether a node's bit is set.
+fn has_bit(words: &[u64; 4], node: u32) -> bool
+    requires { node < MOST_NODES }
+    ensures { result ≡ has_bit words.now node }
+{
+    (words[(node / 64) as usize] >> (node % 64)) & 1 == 1
 }

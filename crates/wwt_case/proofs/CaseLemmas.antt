@@ -132,9 +132,9 @@ load_no_usage loaded (Some faults.NoMemory) made = refl
 generated_no_usage : (number workers : ℕ) → is_usage (generated_plan number workers) ≡ false
 generated_no_usage number workers =
     no_usage_then (machine_plan (generated number)) (λ described. Give (load_of workers described))
-    (no_usage_then (images_plan [] 0 (generated number).images) (λ images. Give (loaded_machine (generated number).machine images))
+    (no_usage_then (images_plan [] 0 (generated number).images) (λ images. Give (loaded_machine (generated number) images))
     (images_no_usage [] 0 (generated number).images)
-    (λ images. load_no_usage (loaded_with (generated number).machine images) (load_fault (generated number).machine 0 images) (λ loaded. record { machine = (generated number).machine; loaded = loaded })))
+    (λ images. load_no_usage (loaded_with (generated number).machine images) (load_fault (generated number).machine 0 images) (λ loaded. record { version = (generated number).version; machine = (generated number).machine; loaded = loaded })))
     (λ described. refl)
 
 -- whether a command is refused, by what it is

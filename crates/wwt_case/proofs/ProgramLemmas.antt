@@ -62,6 +62,7 @@ pub flat_reads_nothing : (bytes : List ℕ) (name : List ℕ) → flat_of bytes 
 flat_reads_nothing bytes name e =
     after_load Flat (load_case flat_machine (flat_image bytes 0 ∷ [])) name (load_reads_nothing flat_machine (flat_image bytes 0 ∷ [])) e
 
-pub machine_reads_nothing : (machine : MachineParts) (images : List Image) (name : List ℕ) → loaded_machine machine images ≢ Err (Read name)
-machine_reads_nothing machine images name e =
-    after_load {B = Described} (λ loaded. record { machine = machine; loaded = loaded }) (load_case machine images) name (load_reads_nothing machine images) e
+pub machine_reads_nothing : (description : Description) (images : List Image) (name : List ℕ) → loaded_machine description images ≢ Err (Read name)
+machine_reads_nothing description images name e =
+    after_load {B = Described} (λ loaded. record { version = description.version; machine = description.machine; loaded = loaded })
+    (load_case description.machine images) name (load_reads_nothing description.machine images) e

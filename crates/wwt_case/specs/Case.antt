@@ -41,25 +41,26 @@ description_plan name = do
   bytes ← file name kinds.Description
   Give (description_or (description_of bytes))
 
--- a machine with its images loaded
-abbrev pub loaded_machine : MachineParts → List Image → Result Described Refusal
-loaded_machine machine images =
-    and_then (load_case machine images) (λ loaded. Ok (record { machine = machine; loaded = loaded }))
+-- the machine of a description with these images loaded, and the description's version
+abbrev pub loaded_machine : Description → List Image → Result Described Refusal
+loaded_machine description images =
+    and_then (load_case description.machine images)
+    (λ loaded. Ok (record { version = description.version; machine = description.machine; loaded = loaded }))
 
 -- the machine of a description with its images read and loaded
 abbrev pub machine_plan : Description → Plan Described
 machine_plan description = do
   images ← images_plan [] 0 description.images
-  Give (loaded_machine description.machine images)
+  Give (loaded_machine description images)
 
 abbrev pub described_plan : List ℕ → Plan Described
 described_plan name = do
   description ← description_plan name
   machine_plan description
 
--- a described machine is printed
+-- a described machine is printed, with the version
 abbrev pub check_of : Described → Result Job Refusal
-check_of described = Ok (Check described.machine described.loaded)
+check_of described = Ok (Check described.version described.machine described.loaded)
 
 abbrev pub check_plan : List ℕ → Plan Job
 check_plan name = do
@@ -135,7 +136,7 @@ IsBudget budget = InRange 1 (2 ^ 40) budget
 
 -- how many workers do a job, and how many the words call for: one, but for a run or a load that asks for more
 abbrev pub workers_of_job : Job → ℕ
-workers_of_job (Check machine loaded) = 1
+workers_of_job (Check version machine loaded) = 1
 workers_of_job (Dis image) = 1
 workers_of_job (Flat loaded) = 1
 workers_of_job (Run machine loaded workers trace memory) = workers
@@ -169,7 +170,7 @@ IsLoaded described = IsFor described.machine described.loaded
 
 -- what a job rests on
 abbrev pub IsReady : Job → Type 0
-IsReady (Check machine loaded) = IsFor machine loaded
+IsReady (Check version machine loaded) = IsFor machine loaded
 IsReady (Dis image) = ⊤
 IsReady (Flat loaded) = IsFlat loaded
 IsReady (Run machine loaded workers trace memory) = IsFor machine loaded × AreWorkers workers

@@ -77,6 +77,7 @@ fn prepare_check<S: Store>(alloc: Global, name: &str, store: &mut S) -> Result<J
 {
     match prepare_described(alloc, name, store) {
         Ok(described) => Ok(Job::Check {
+            version: described.version,
             machine: described.machine,
             loaded: described.loaded,
         }),
@@ -176,9 +177,8 @@ fn prepare_machine<S: Store>(
     ensures ready { IfOk result IsLoaded }
     ensures other { IsOther result }
 {
-    let machine = &description.machine;
-    // (one image for each of 32 nodes at most)
-    let _nodes = machine.nodes();
+    // (one image for each of 256 nodes at most)
+    let _nodes = description.machine.nodes();
     match read_images(
         alloc,
         Images::new(alloc),
@@ -186,22 +186,23 @@ fn prepare_machine<S: Store>(
         description.images.get(),
         store,
     ) {
-        Ok(images) => loaded_machine(machine, images),
+        Ok(images) => loaded_machine(description, images),
         Err(refusal) => Err(refusal),
     }
 }
 
-/// A machine with its images loaded.
-fn loaded_machine(machine: &Machine, images: Images) -> Result<Described, Refusal>
-    requires count { (length images ≡ 1) ⊎ (length images ≡ machine.now.nodes) }
+/// The machine of a description, with its images loaded.
+fn loaded_machine(description: &Description, images: Images) -> Result<Described, Refusal>
+    requires count { (length images ≡ 1) ⊎ (length images ≡ description.now.machine.nodes) }
     requires bytes { All HoldsItsBytes images }
-    ensures answer { Answers (loaded_machine machine.now images) result }
+    ensures answer { Answers (loaded_machine description.now images) result }
     ensures ready { IfOk result IsLoaded }
     ensures other { IsOther result }
 {
-    match load_images(machine, images.into_inner()) {
+    match load_images(&description.machine, images.into_inner()) {
         Ok(loaded) => Ok(Described {
-            machine: *machine,
+            version: description.version,
+            machine: description.machine,
             loaded,
         }),
         Err(refusal) => Err(refusal),

@@ -2,9 +2,10 @@ use elf_image::Image;
 use image_loader::Loaded;
 use wt_params::Machine;
 
-/// A machine with its images loaded.
+/// A machine with its images loaded, and the version of its description.
 #[derive(Debug, Drop)]
 pub(crate) struct Described {
+    pub version: u64,
     pub machine: Machine,
     pub loaded: Loaded,
 }
@@ -12,8 +13,9 @@ pub(crate) struct Described {
 /// What is to be done for an accepted command.
 #[derive(Debug, Drop)]
 pub enum Job {
-    /// Print a machine and its images.
+    /// Print a machine and its images, and the version of its description, 1 or 2.
     Check {
+        version: u64,
         machine: Machine,
         loaded: Loaded,
     },

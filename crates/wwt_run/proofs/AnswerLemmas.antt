@@ -46,7 +46,7 @@ unfolding status_of_run
 ran_is_done machine loaded options = run_is_done (outcome_of machine (final_of machine loaded options.trace)) (final_of machine loaded options.trace).nodes
 
 pub job_is_done : (job : Job) → IsDone (status_of_job job)
-job_is_done (Check machine loaded) = tt
+job_is_done (Check version machine loaded) = tt
 job_is_done (Dis image) = tt
 job_is_done (Flat loaded) = ran_is_done flat_machine loaded (asked_of false false)
 job_is_done (Run machine loaded workers trace memory) = ran_is_done machine loaded (asked_of trace memory)

@@ -3,3 +3,4 @@ pub mod AnswerLemmas
 pub mod RefusedLemmas
 pub mod RunLemmas
 pub mod ThreadLemmas
+pub mod SilentLemmas

@@ -70,7 +70,7 @@ has_some machine loaded traced None have = absurd have
 has_some machine loaded traced (Some engine) have = refl
 
 job_has_some : (job : Job) (ran : Option EngineModel) → 1 < workers_of_job job → HaveRunJob job ran → IsSome ran
-job_has_some (Check machine loaded) ran many have = absurd (omega arith)
+job_has_some (Check version machine loaded) ran many have = absurd (omega arith)
 job_has_some (Dis image) ran many have = absurd (omega arith)
 job_has_some (Flat loaded) ran many have = absurd (omega arith)
 job_has_some (Run machine loaded workers trace memory) ran many have = has_some machine loaded trace ran have

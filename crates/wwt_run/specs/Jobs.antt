@@ -76,14 +76,14 @@ abbrev pub summary_of : Options
 summary_of = record { trace = false; memory = false; summary = true }
 
 abbrev pub output_of_job : Job → List ℕ
-output_of_job (Check machine loaded) = machine_text machine loaded
+output_of_job (Check version machine loaded) = machine_text version machine loaded
 output_of_job (Dis image) = words_text image
 output_of_job (Flat loaded) = output_of_run flat_machine loaded (asked_of false false)
 output_of_job (Run machine loaded workers trace memory) = output_of_run machine loaded (asked_of trace memory)
 output_of_job (Load machine loaded workers) = output_of_run machine loaded summary_of
 
 abbrev pub status_of_job : Job → Status
-status_of_job (Check machine loaded) = Done
+status_of_job (Check version machine loaded) = Done
 status_of_job (Dis image) = Done
 status_of_job (Flat loaded) = status_of_run flat_machine loaded (asked_of false false)
 status_of_job (Run machine loaded workers trace memory) = status_of_run machine loaded (asked_of trace memory)

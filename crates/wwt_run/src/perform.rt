@@ -23,7 +23,11 @@ pub fn perform<K: Sink>(alloc: Global, job: &Job, out: &mut K) -> Result<Status,
     ensures writes { Writes (output_of_job job.now) result K.view out.old out.new }
 {
     match job {
-        Job::Check { machine, loaded } => done(write_machine(alloc, machine, loaded, out)),
+        Job::Check {
+            version,
+            machine,
+            loaded,
+        } => done(write_machine(alloc, *version, machine, loaded, out)),
         Job::Dis { image } => done(write_words(alloc, image, out)),
         Job::Flat { loaded } => run(alloc, &Machine::flat(), loaded, &asked(false, false), out),
         Job::Run {

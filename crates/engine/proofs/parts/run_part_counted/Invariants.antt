@@ -1,4 +1,4 @@
-use Rattle.std.proofs.Common.{◌≡◌, ◌++◌, List, map, take, drop}
+use Rattle.std.proofs.Common.{◌≡◌, [], ◌++◌, List, map, take, drop}
 use Rattle.std.specs.List.{AllWithin}
 use Rattle.wt_proto.specs.declared.message.Stamped.{Stamped}
 use Rattle.engine.specs.Quantum.{AreHandedOut, IsGood, ran_to}
@@ -8,6 +8,7 @@ use Rattle.engine.proofs.parts.run_part_counted.Given as goal
 -- the stations so far have run, and what they hand out was put in
 abbrev pub invariant-loop-station : goal.invariant-loop-station
 invariant-loop-station g l = record {
+  none_left : l.outs ≡ [];
   letters : List Stamped;
   ran : l.stations ≡ map (ran_to l.until) (take l.station-index l.fn.stations) ++ drop l.station-index l.fn.stations;
   outs : AreHandedOut l.until (take l.station-index l.fn.stations) letters;

@@ -3,6 +3,7 @@ use Rattle.std.proofs.lemmas.Result.{err_from_is_err_and}
 use Rattle.serde_json.specs.View.{view}
 use Rattle.machine_json.specs.Description.{description_in, description_or_fault}
 use Rattle.machine_json.specs.Images.{images_of}
+use Rattle.machine_json.specs.Table.{version_of}
 use Rattle.machine_json.proofs.FaultLaws.{refusal_of_fault, refusal_of_rest, refusal_of_step, same_refusal, value_of_next, value_of_rest}
 use Rattle.machine_json.proofs.reader.read_machine.Goals as goal
 
@@ -62,4 +63,5 @@ returns-clause-ok c =
     (value_of_rest _ _ _ c.in_ok-machine.ensures.none
     (value_of_next _ _ c.in_ok-images.images _
     (ap (λ n. images_of n description) (sym nodes) ∙ c.in_ok-images.ensures.ok)
-    (ap (λ machine. Ok (record { machine = machine; images = c.in_ok-images.images })) (sym c.in_ok-machine.ensures.machine)))))
+    (ap (λ machine. Ok (record { machine = machine; images = c.in_ok-images.images; version = version_of description })) (sym c.in_ok-machine.ensures.machine)
+    ∙ ap (λ version. Ok (record { machine = c.in_ok-machine.machine; images = c.in_ok-images.images; version = version })) (sym c.version_of.ensures)))))

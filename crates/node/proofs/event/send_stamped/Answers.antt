@@ -1,4 +1,4 @@
-use Rattle.std.proofs.Common.{◌≡◌, ℕ, suc, ◌+◌, ◌<◌, ◌^◌, List, ◌++◌, ◌∷◌, [], length, append_assoc, ap, sym, ◌∙◌, subst, arith}
+use Rattle.std.proofs.Common.{◌≡◌, suc, ◌+◌, List, ◌++◌, ◌∷◌, [], length, append_assoc, ap, sym, ◌∙◌, subst, arith}
 use Rattle.wt_proto.specs.declared.message.Stamped.{Stamped}
 use Rattle.node.specs.declared.state.Send.{Send}
 use Rattle.node.specs.React.{stamped, stamped_from}

@@ -1,4 +1,4 @@
-use Rattle.std.proofs.Common.{◌≡◌, ◌<◌, Some, None, sym, ap, ◌∙◌, subst, refl, true, length, drop, take, arith}
+use Rattle.std.proofs.Common.{◌≡◌, Some, sym, ap, ◌∙◌, subst, refl, true, length, drop, take, arith}
 use Rattle.std.specs.Prelude.{slice_get}
 use Rattle.std.specs.Option.{option_copied}
 use Rattle.std.proofs.lemmas.Option.{get_or_from_slice_get, slice_get_within}
@@ -17,10 +17,10 @@ loop-message-init g c = record {
   so_far = at_first c.args.self.now c.number-number.result (drop c.args.from c.args.outs.now) (take c.args.from c.args.outs.now) c.args.steps.now c.number-number.ensures c.requires.may;
 }
 
-pub insert-requires : goal.insert-requires
-insert-requires g c =
+pub insert_letter-requires : goal.insert_letter-requires
+insert_letter-requires g c =
     let is : slice_get c.loop-message.outs c.loop-message.place ≡ Some c.in-Some.message.now = sym c.get.ensures ∙ ap option_copied c.in-Some.is in
-    let same : c.in-Some-remove.taken ≡ c.in-Some.message.now = c.in-Some-remove.ensures.value ∙ get_or_from_slice_get c.loop-message.outs c.loop-message.place c.in-Some.message.now c.in-Some-remove.taken is in
+    let same : c.in-Some-remove_letter.taken ≡ c.in-Some.message.now = c.in-Some-remove_letter.ensures.value ∙ get_or_from_slice_get c.loop-message.outs c.loop-message.place c.in-Some.message.now c.in-Some-remove_letter.taken is in
     record {
       new_key = subst (λ (m : Stamped). HasNoKey (key_of m) c.loop-message.self.queue) (sym same)
           (new_at c.args.self.now c.loop-message.self c.number-number.result (drop c.args.from c.args.outs.now) (take c.args.from c.args.outs.now) c.loop-message.outs c.loop-message.place c.in-Some.message.now c.loop-message.own c.args.steps.now c.loop-message.steps is c.loop-message.invariant.so_far);
@@ -29,19 +29,19 @@ insert-requires g c =
 pub loop-message-preserved-in-Ok : goal.loop-message-preserved-in-Ok
 loop-message-preserved-in-Ok g c =
     let is : slice_get c.loop-message.outs c.loop-message.place ≡ Some c.in-Some.message.now = sym c.get.ensures ∙ ap option_copied c.in-Some.is in
-    let same : c.in-Some-remove.taken ≡ c.in-Some.message.now = c.in-Some-remove.ensures.value ∙ get_or_from_slice_get c.loop-message.outs c.loop-message.place c.in-Some.message.now c.in-Some-remove.taken is in
+    let same : c.in-Some-remove_letter.taken ≡ c.in-Some.message.now = c.in-Some-remove_letter.ensures.value ∙ get_or_from_slice_get c.loop-message.outs c.loop-message.place c.in-Some.message.now c.in-Some-remove_letter.taken is in
     let within = slice_get_within c.loop-message.outs c.loop-message.place c.in-Some.message.now is in
-    let shorter = ap length c.in-Some-remove.ensures.rest in
+    let shorter = ap length c.in-Some-remove_letter.ensures.rest in
     let one_less = length_removed c.loop-message.outs c.loop-message.place within in
     let few = c.loop-message.invariant.few in
-    let after : Site = (record { node = c.loop-message.self.node; queue = c.insert.new.self }) in
+    let after : Site = (record { node = c.loop-message.self.node; queue = c.insert_letter.new.self }) in
     record {
       within = omega (arith, within, shorter, one_less);
       few = omega (arith, few, shorter, one_less);
       so_far =
-          subst (λ steps. IsHandingOut c.args.self.now after c.number-number.result (drop c.args.from c.args.outs.now) (drop c.loop-message.place c.remove.new.self) (take c.args.from c.args.outs.now) (take c.loop-message.place c.remove.new.self) true c.args.steps.now steps) (sym c.in-Ok.ensures.step)
-          (own_at c.args.self.now c.loop-message.self c.number-number.result (drop c.args.from c.args.outs.now) (take c.args.from c.args.outs.now) c.loop-message.outs c.loop-message.place c.in-Some.message.now c.loop-message.own c.args.steps.now c.loop-message.steps is c.loop-message.invariant.so_far after c.remove.new.self c.in-Some-remove.ensures.rest c.if-message-number.true refl
-          (subst (λ (m : Stamped). c.insert.new.self ≡ insert_of m c.loop-message.self.queue) same c.in-Ok.ensures.ok) c.insert.ensures.rising);
+          subst (λ steps. IsHandingOut c.args.self.now after c.number-number.result (drop c.args.from c.args.outs.now) (drop c.loop-message.place c.remove_letter.new.self) (take c.args.from c.args.outs.now) (take c.loop-message.place c.remove_letter.new.self) true c.args.steps.now steps) (sym c.in-Ok.ensures.step)
+          (own_at c.args.self.now c.loop-message.self c.number-number.result (drop c.args.from c.args.outs.now) (take c.args.from c.args.outs.now) c.loop-message.outs c.loop-message.place c.in-Some.message.now c.loop-message.own c.args.steps.now c.loop-message.steps is c.loop-message.invariant.so_far after c.remove_letter.new.self c.in-Some-remove_letter.ensures.rest c.if-message-number.true refl
+          (subst (λ (m : Stamped). c.insert_letter.new.self ≡ insert_of m c.loop-message.self.queue) same c.in-Ok.ensures.ok) c.insert_letter.ensures.rising);
     }
 
 pub loop-message-smaller : goal.loop-message-smaller

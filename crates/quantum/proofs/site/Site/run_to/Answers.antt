@@ -1,4 +1,4 @@
-use Rattle.std.proofs.Common.{◌≡◌, List, [], ◌++◌, length, take, drop, refl, sym, ap, ◌∙◌, ◌||◌, true, false, arith}
+use Rattle.std.proofs.Common.{◌≡◌, List, [], ◌++◌, length, drop, refl, sym, ap, ◌∙◌, ◌||◌, true, false, arith}
 use Rattle.std.proofs.lemmas.List.{drop_all, take_all, take-append-drop}
 use Rattle.wt_proto.specs.declared.message.Stamped.{Stamped}
 use Rattle.quantum.specs.Sites.{is_message_of}

@@ -1,0 +1,9 @@
+pub mod Pipes
+pub mod Cells
+pub mod Rolls
+pub mod Serving
+pub mod Arrivals
+pub mod Wakes
+pub mod Steps
+pub mod Strays
+pub mod Lines

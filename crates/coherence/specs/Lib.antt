@@ -1,0 +1,7 @@
+pub mod Pipes
+pub mod Block
+pub mod Facts
+pub mod Rows
+pub mod Steps
+pub mod Laws
+pub mod Lines

@@ -1,0 +1,33 @@
+ghost use Rattle.coherence.specs.Laws.{StartIsCoherent, StepsKeepFacts, RunsAreCoherent, NothingIsStray, OneWriter};
+ghost use Rattle.coherence.specs.Lines.{LinesKeepOrder};
+
+/// At the start the facts of a block hold.
+pub fn start_is_coherent()
+    ensures { StartIsCoherent }
+{}
+
+/// Every step of a block keeps them.
+pub fn steps_keep_facts()
+    ensures { StepsKeepFacts }
+{}
+
+/// So they hold after any steps from a start.
+pub fn runs_are_coherent()
+    ensures { RunsAreCoherent }
+{}
+
+/// No message comes that nobody asked for.
+pub fn nothing_is_stray()
+    ensures { NothingIsStray }
+{}
+
+/// A copy that can be written is the only copy.
+pub fn one_writer()
+    ensures { OneWriter }
+{}
+
+/// Lines of messages are first in, first out: what is above all of a line joins it at its end, and the first of a line
+/// is taken from its front.
+pub fn lines_keep_order()
+    ensures { LinesKeepOrder }
+{}

@@ -1,0 +1,10 @@
+//! Coherence of shared memory, block by block: whatever the order of events, no message is stray, and a copy that
+//! can be written is the only copy. It is proved of a machine of one block, and not yet tied to the simulated one.
+#![tactic(auto)]
+
+mod block;
+
+pub use block::{
+    lines_keep_order, nothing_is_stray, one_writer, runs_are_coherent, start_is_coherent,
+    steps_keep_facts,
+};
