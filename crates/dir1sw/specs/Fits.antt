@@ -1,8 +1,9 @@
 -- What fits a machine stays so: the laws of the directory's tables. Own.
 use Rattle.std.specs.Prelude.{◌≡◌, ℕ, ◌+◌, ◌<◌, ◌≤◌, length, All, IfSome}
+use Rattle.dir_list.specs.Known.{AreBelow}
 use Rattle.wt_params.specs.declared.parts.MachineParts.{MachineParts}
 use Rattle.wt_proto.specs.declared.directory.DirState.{DirState}
-use Rattle.wt_proto.specs.declared.directory.DirState.TheVariants.{Exclusive, Busy}
+use Rattle.wt_proto.specs.declared.directory.DirState.TheVariants.{Shared, Exclusive, Busy}
 use Rattle.wt_proto.specs.declared.directory.Request.{Request}
 use Rattle.wt_proto.specs.declared.directory.Targets.{Targets}
 use Rattle.wt_proto.specs.declared.directory.Targets.TheVariants.{AllBut, One}
@@ -17,6 +18,7 @@ use Rattle.dir1sw.specs.Table.{Row, copies_of, arrive_of}
 
 -- the nodes that a state names are nodes of the machine
 abbrev pub StateFits : MachineParts → DirState → Type 0
+StateFits machine (Shared readers) = AreBelow machine.nodes readers
 StateFits machine (Exclusive owner) = owner < machine.nodes
 StateFits machine (Busy from exclusive left) = from < machine.nodes
 StateFits machine _ = Unit {0}
@@ -58,8 +60,9 @@ pub record RowFits (machine : MachineParts) (before : HomeBlock) (most : ℕ) (r
   pub act : ActFits machine row.act
   pub copies : copies_of row.home.entry.state ≤ copies_of before.entry.state + 1
 
--- Each row of the tables leaves and sends what fits, and at most two messages, where what has come fits.
+-- Each row of the tables leaves and sends what fits, and at most a message to each node and one more, where what has come
+-- fits.
 abbrev pub RowsFit : Type 0
 RowsFit =
     (machine : MachineParts) (place : Place) (body : Body) (home : HomeBlock) → PlaceFits machine place
-    → BytesFit machine body → HomeFits machine home → RowFits machine home 2 (arrive_of place body home)
+    → BytesFit machine body → HomeFits machine home → RowFits machine home (machine.nodes + 1) (arrive_of place body home)

@@ -5,6 +5,7 @@ use Rattle.wt_params.specs.Machine.{home_of}
 use Rattle.wt_proto.specs.declared.directory.DirState.TheVariants.{Idle}
 use Rattle.wt_proto.specs.declared.message.Msg.{Msg}
 use Rattle.dir1sw.specs.declared.home.HomeBlock.{HomeBlock}
+use Rattle.dir1sw.specs.declared.home.Place.{Place}
 use Rattle.dir1sw.specs.Table.{Row, IsSound, arrive_of}
 
 -- what a node keeps of its blocks: block b stands at place b / nodes
@@ -23,7 +24,7 @@ count_of machine node = (machine.blocks + (machine.nodes - 1 - node)) / machine.
 pub record AreHomes (machine : MachineParts) (number : ℕ) (blocks : List HomeBlock) : Type 0 where
   pub node : number < machine.nodes
   pub count : length blocks ≡ count_of machine number
-  pub sound : All (λ (home : HomeBlock). IsSound home.entry.state) blocks
+  pub sound : All (λ (home : HomeBlock). IsSound machine.pointers home.entry.state) blocks
 
 -- a block that exists, and whose home is this node
 pub record IsHome (homes : Homes) (block : ℕ) : Type 0 where
@@ -54,11 +55,19 @@ block_of homes block = slice_index_or homes.blocks (block / homes.machine.nodes)
 abbrev pub with_block : ℕ → HomeBlock → Homes → Homes
 with_block block home homes = record homes { blocks = slice_set homes.blocks (block / homes.machine.nodes) home }
 
+-- a block of a machine, and a node from which a message comes
+abbrev pub place_of : Homes → ℕ → ℕ → Place
+place_of homes block from = record {
+  nodes = homes.machine.nodes;
+  pointers = homes.machine.pointers;
+  block = block;
+  from = from;
+}
+
 -- the row of the tables for a message from a node
 abbrev pub row_of : Homes → ℕ → Msg → Row
 row_of homes from msg =
-    arrive_of (record { nodes = homes.machine.nodes; block = msg.block; from = from }) msg.body
-    (block_of homes msg.block)
+    arrive_of (place_of homes msg.block from) msg.body (block_of homes msg.block)
 
 -- the same node's directory after memory was refused to it
 pub record IsBrokenFrom (old new : Homes) : Type 0 where

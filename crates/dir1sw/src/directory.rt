@@ -97,6 +97,7 @@ impl Directory {
         }
         let place = Place {
             nodes: self.machine.nodes() as u32,
+            pointers: self.machine.pointers() as u32,
             block: msg.block,
             from,
         };
@@ -137,7 +138,7 @@ fn fresh_blocks(alloc: Global, machine: &Machine, count: usize) -> Result<Vec<Ho
 }
 
 /// The law of the directory's tables: where what has come fits the machine, what a row leaves and sends fits it too, at
-/// most two messages are sent, and at most one copy more is counted.
+/// most a message to each node and one more is sent, and at most one copy more is known.
 pub fn rows_fit()
     ensures { RowsFit }
 {}

@@ -1,6 +1,7 @@
-ghost use Rattle.std.specs.Prelude.{◌≡◌, ◌^◌, ◌<◌, ◌≤◌, ◌++◌, true, false, IfOk};
-ghost use Rattle.dir1sw.specs.Table.{IsSound, copies_of, IsRow, is_busy_state, grant_body, answer_of, call_back_of, serve_of, request_of, put_s_of, put_x_of, wake_after, inv_ack_of, wake_of, arrive_of};
+ghost use Rattle.std.specs.Prelude.{◌≡◌, ◌^◌, ◌<◌, ◌≤◌, ◌++◌, true, false, map, IfOk, OnOk};
+ghost use Rattle.dir1sw.specs.Table.{IsSound, copies_of, IsRow, is_busy_state, grant_body, granted_to, answer_of, call_back_of, invalidation_to, invalidate_of, serve_of, request_of, put_s_of, put_x_of, wake_after, inv_ack_of, wake_of, arrive_of};
 
+use dir_list::{Few, Readers, Removed};
 use wt_params::NoMemory;
 use wt_proto::{Block, Body, DirEntry, DirState, Msg, Outgoing, Request, Sends, Targets, TrapPlan};
 
@@ -15,10 +16,11 @@ pub enum DirAct {
     Stray,
 }
 
-/// Where a message has come: to which block, of a machine of how many nodes, and from whom.
+/// Where a message has come: to which block, of a machine of how many nodes, with how many pointers, and from whom.
 #[derive(Clone, Copy, Debug)]
 pub struct Place {
     pub nodes: u32,
+    pub pointers: u32,
     pub block: u32,
     pub from: u32,
 }
@@ -34,21 +36,22 @@ impl HomeBlock {
     /// Handles a message.
     pub fn arrive(&mut self, place: Place, body: &Body, out: &mut Sends) -> Result<DirAct, NoMemory>
         requires nodes { 1 ≤ place.nodes }
-        requires sound { IsSound self.old.entry.state }
+        requires pointers { place.pointers ≤ 4 }
+        requires sound { IsSound place.pointers self.old.entry.state }
         requires count { copies_of self.old.entry.state < 2 ^ 63 }
         ensures row { IfOk result (IsRow (arrive_of place body.now self.old) self.new out.old out.new) }
-        ensures sound { IsSound self.new.entry.state }
+        ensures sound { IsSound place.pointers self.new.entry.state }
     {
         match body {
             Body::GetS => self.request(place, false, out),
             Body::GetX { had } => {
                 if *had {
-                    let _ = self.put_s();
+                    let _ = self.put_s(place);
                 }
                 self.request(place, true, out)
             }
-            Body::PutS => Ok(self.put_s()),
-            Body::PutX { bytes } => Ok(self.put_x(place.from, bytes)),
+            Body::PutS => Ok(self.put_s(place)),
+            Body::PutX { bytes } => Ok(self.put_x(place, bytes)),
             Body::InvAck { bytes } => self.inv_ack(place, bytes, out),
             Body::Wake => self.wake(place, out),
             _ => Ok(DirAct::Stray),
@@ -62,11 +65,12 @@ impl HomeBlock {
         exclusive: bool,
         out: &mut Sends,
     ) -> Result<DirAct, NoMemory>
+        requires pointers { place.pointers ≤ 4 }
         requires nodes { 1 ≤ place.nodes }
-        requires sound { IsSound self.old.entry.state }
+        requires sound { IsSound place.pointers self.old.entry.state }
         requires count { copies_of self.old.entry.state < 2 ^ 63 }
         ensures row { IfOk result (IsRow (request_of place exclusive self.old) self.new out.old out.new) }
-        ensures sound { IsSound self.new.entry.state }
+        ensures sound { IsSound place.pointers self.new.entry.state }
     {
         let request = Request {
             node: place.from,
@@ -81,11 +85,12 @@ impl HomeBlock {
 
     /// Serves a request at an entry that isn't busy.
     fn serve(&mut self, place: Place, request: Request, out: &mut Sends) -> Result<DirAct, NoMemory>
+        requires pointers { place.pointers ≤ 4 }
         requires nodes { 1 ≤ place.nodes }
-        requires sound { IsSound self.old.entry.state }
+        requires sound { IsSound place.pointers self.old.entry.state }
         requires count { copies_of self.old.entry.state < 2 ^ 63 }
         ensures row { IfOk result (IsRow (serve_of place request self.old) self.new out.old out.new) }
-        ensures sound { IsSound self.new.entry.state }
+        ensures sound { IsSound place.pointers self.new.entry.state }
     {
         if request.exclusive {
             self.serve_to_write(place, request, out)
@@ -100,24 +105,23 @@ impl HomeBlock {
         request: Request,
         out: &mut Sends,
     ) -> Result<DirAct, NoMemory>
+        requires pointers { place.pointers ≤ 4 }
         requires kind { request.exclusive ≡ false }
-        requires sound { IsSound self.old.entry.state }
+        requires sound { IsSound place.pointers self.old.entry.state }
         requires count { copies_of self.old.entry.state < 2 ^ 63 }
         ensures row { IfOk result (IsRow (serve_of place request self.old) self.new out.old out.new) }
-        ensures sound { IsSound self.new.entry.state }
+        ensures sound { IsSound place.pointers self.new.entry.state }
     {
-        match self.entry.state {
-            DirState::Idle => self.answer(place, request, DirState::Shared { count: 1 }, out),
-            DirState::Shared { count } => {
-                let state = DirState::Shared { count: count + 1 };
-                self.answer(place, request, state, out)
-            }
+        let readers = match &self.entry.state {
+            DirState::Idle => Readers::first(request.node, place.pointers),
+            DirState::Shared { readers } => readers.add(request.node, place.pointers),
             DirState::Exclusive { owner } => {
-                let targets = Targets::One { node: owner };
-                Ok(self.call_back(place, request, targets, 1))
+                let targets = Targets::One { node: *owner };
+                return Ok(self.call_back(place, request, targets, 1));
             }
-            DirState::Busy { .. } => Ok(DirAct::Stray),
-        }
+            DirState::Busy { .. } => return Ok(DirAct::Stray),
+        };
+        self.answer(place, request, DirState::Shared { readers }, out)
     }
 
     fn serve_to_write(
@@ -128,28 +132,70 @@ impl HomeBlock {
     ) -> Result<DirAct, NoMemory>
         requires nodes { 1 ≤ place.nodes }
         requires kind { request.exclusive ≡ true }
-        requires sound { IsSound self.old.entry.state }
+        requires sound { IsSound place.pointers self.old.entry.state }
         ensures row { IfOk result (IsRow (serve_of place request self.old) self.new out.old out.new) }
-        ensures sound { IsSound self.new.entry.state }
+        ensures sound { IsSound place.pointers self.new.entry.state }
     {
-        let owned = DirState::Exclusive {
-            owner: request.node,
+        let others = match &self.entry.state {
+            DirState::Idle => Some(Few::new()),
+            DirState::Shared { readers } => readers.others(request.node),
+            DirState::Exclusive { owner } => {
+                let targets = Targets::One { node: *owner };
+                return Ok(self.call_back(place, request, targets, 1));
+            }
+            DirState::Busy { .. } => return Ok(DirAct::Stray),
         };
-        match self.entry.state {
-            DirState::Idle => self.answer(place, request, owned, out),
-            DirState::Shared { .. } => {
-                if place.nodes == 1 {
-                    return self.answer(place, request, owned, out);
-                }
+        match others {
+            Some(others) => self.invalidate(place, request, &others, out),
+            None if place.nodes == 1 => self.grant(place, request, out),
+            None => {
                 let targets = Targets::AllBut { node: request.node };
                 Ok(self.call_back(place, request, targets, place.nodes - 1))
             }
-            DirState::Exclusive { owner } => {
-                let targets = Targets::One { node: owner };
-                Ok(self.call_back(place, request, targets, 1))
-            }
-            DirState::Busy { .. } => Ok(DirAct::Stray),
         }
+    }
+
+    /// Calls the copies of a few nodes back at once. With none the block is granted.
+    fn invalidate(
+        &mut self,
+        place: Place,
+        request: Request,
+        others: &Few,
+        out: &mut Sends,
+    ) -> Result<DirAct, NoMemory>
+        requires kind { request.exclusive ≡ true }
+        requires sound { IsSound place.pointers self.old.entry.state }
+        ensures row { IfOk result (IsRow (invalidate_of place request others.now self.old) self.new out.old out.new) }
+        ensures sound { IsSound place.pointers self.new.entry.state }
+    {
+        let nodes = others.nodes();
+        if nodes.is_empty() {
+            return self.grant(place, request, out);
+        }
+        send_invalidations(place, nodes, out)?;
+        self.entry.state = DirState::Busy {
+            from: request.node,
+            exclusive: request.exclusive,
+            left: nodes.len() as u32,
+        };
+        Ok(DirAct::Done)
+    }
+
+    /// Grants the block to who asked for it and nobody else.
+    fn grant(&mut self, place: Place, request: Request, out: &mut Sends) -> Result<DirAct, NoMemory>
+        requires { IsSound place.pointers self.old.entry.state }
+        ensures row { IfOk result (IsRow (answer_of place request (granted_to place request) self.old) self.new out.old out.new) }
+        ensures sound { IsSound place.pointers self.new.entry.state }
+    {
+        let state = if request.exclusive {
+            DirState::Exclusive {
+                owner: request.node,
+            }
+        } else {
+            let readers = Readers::first(request.node, place.pointers);
+            DirState::Shared { readers }
+        };
+        self.answer(place, request, state, out)
     }
 
     /// Sends the memory to who asked for it, and goes over to a state.
@@ -160,10 +206,10 @@ impl HomeBlock {
         state: DirState,
         out: &mut Sends,
     ) -> Result<DirAct, NoMemory>
-        requires old_sound { IsSound self.old.entry.state }
-        requires new_sound { IsSound state }
+        requires old_sound { IsSound place.pointers self.old.entry.state }
+        requires new_sound { IsSound place.pointers state }
         ensures row { IfOk result (IsRow (answer_of place request state self.old) self.new out.old out.new) }
-        ensures sound { IsSound self.new.entry.state }
+        ensures sound { IsSound place.pointers self.new.entry.state }
     {
         let msg = Msg {
             block: place.block,
@@ -182,7 +228,7 @@ impl HomeBlock {
         requires { 1 ≤ left }
         ensures home { self.new ≡ (call_back_of place request targets left self.old).home }
         ensures act { result ≡ (call_back_of place request targets left self.old).act }
-        ensures sound { IsSound self.new.entry.state }
+        ensures sound { IsSound place.pointers self.new.entry.state }
     {
         self.entry.state = DirState::Busy {
             from: request.node,
@@ -196,36 +242,35 @@ impl HomeBlock {
     }
 
     /// A copy to read comes back.
-    fn put_s(&mut self) -> DirAct
-        requires { IsSound self.old.entry.state }
-        ensures home { self.new ≡ (put_s_of self.old).home }
-        ensures act { result ≡ (put_s_of self.old).act }
-        ensures sound { IsSound self.new.entry.state }
+    fn put_s(&mut self, place: Place) -> DirAct
+        requires { IsSound place.pointers self.old.entry.state }
+        ensures home { self.new ≡ (put_s_of place.from self.old).home }
+        ensures act { result ≡ (put_s_of place.from self.old).act }
+        ensures sound { IsSound place.pointers self.new.entry.state }
         ensures count { copies_of self.new.entry.state ≤ copies_of self.old.entry.state }
     {
-        match self.entry.state {
-            DirState::Shared { count: 1 } => {
-                self.entry.state = DirState::Idle;
-                DirAct::Done
-            }
-            DirState::Shared { count } => {
-                self.entry.state = DirState::Shared { count: count - 1 };
-                DirAct::Done
-            }
-            DirState::Busy { .. } => DirAct::Done,
-            DirState::Idle | DirState::Exclusive { .. } => DirAct::Stray,
-        }
+        let left = match &self.entry.state {
+            DirState::Shared { readers } => readers.remove(place.from),
+            DirState::Busy { .. } => return DirAct::Done,
+            DirState::Idle | DirState::Exclusive { .. } => return DirAct::Stray,
+        };
+        self.entry.state = match left {
+            Removed::Left { readers } => DirState::Shared { readers },
+            Removed::Empty => DirState::Idle,
+            Removed::Absent => return DirAct::Stray,
+        };
+        DirAct::Done
     }
 
     /// A block that could be written comes back.
-    fn put_x(&mut self, from: u32, bytes: &Block) -> DirAct
-        requires { IsSound self.old.entry.state }
-        ensures home { self.new ≡ (put_x_of from bytes.now self.old).home }
-        ensures act { result ≡ (put_x_of from bytes.now self.old).act }
-        ensures sound { IsSound self.new.entry.state }
+    fn put_x(&mut self, place: Place, bytes: &Block) -> DirAct
+        requires { IsSound place.pointers self.old.entry.state }
+        ensures home { self.new ≡ (put_x_of place.from bytes.now self.old).home }
+        ensures act { result ≡ (put_x_of place.from bytes.now self.old).act }
+        ensures sound { IsSound place.pointers self.new.entry.state }
     {
         match self.entry.state {
-            DirState::Exclusive { owner } if owner == from => {
+            DirState::Exclusive { owner } if owner == place.from => {
                 self.memory = bytes.copy();
                 self.entry.state = DirState::Idle;
                 DirAct::Done
@@ -246,9 +291,9 @@ impl HomeBlock {
         out: &mut Sends,
     ) -> Result<DirAct, NoMemory>
         requires nodes { 1 ≤ place.nodes }
-        requires sound { IsSound self.old.entry.state }
+        requires sound { IsSound place.pointers self.old.entry.state }
         ensures row { IfOk result (IsRow (inv_ack_of place bytes.now self.old) self.new out.old out.new) }
-        ensures sound { IsSound self.new.entry.state }
+        ensures sound { IsSound place.pointers self.new.entry.state }
     {
         let DirState::Busy {
             from,
@@ -273,22 +318,19 @@ impl HomeBlock {
             node: from,
             exclusive,
         };
-        let state = if exclusive {
-            DirState::Exclusive { owner: from }
-        } else {
-            DirState::Shared { count: 1 }
-        };
-        let granted = self.answer(place, request, state, out)?;
-        self.wake_next(place, granted, out)
+        let act = self.grant(place, request, out)?;
+        self.wake_next(place, out)?;
+        Ok(act)
     }
 
     /// The first request that waits is served.
     fn wake(&mut self, place: Place, out: &mut Sends) -> Result<DirAct, NoMemory>
+        requires pointers { place.pointers ≤ 4 }
         requires nodes { 1 ≤ place.nodes }
-        requires sound { IsSound self.old.entry.state }
+        requires sound { IsSound place.pointers self.old.entry.state }
         requires count { copies_of self.old.entry.state < 2 ^ 63 }
         ensures row { IfOk result (IsRow (wake_of place self.old) self.new out.old out.new) }
-        ensures sound { IsSound self.new.entry.state }
+        ensures sound { IsSound place.pointers self.new.entry.state }
     {
         if self.is_busy() {
             return Ok(DirAct::Stray);
@@ -296,16 +338,17 @@ impl HomeBlock {
         let Some(request) = self.entry.waiting.pop_first() else {
             return Ok(DirAct::Stray);
         };
-        let served = self.serve(place, request, out)?;
-        self.wake_next(place, served, out)
+        let act = self.serve(place, request, out)?;
+        self.wake_next(place, out)?;
+        Ok(act)
     }
 
-    /// Sends a Wake to the home itself, where a request was granted and somebody waits.
-    fn wake_next(&self, place: Place, act: DirAct, out: &mut Sends) -> Result<DirAct, NoMemory>
+    /// Sends a Wake to the home itself, where the entry isn't busy and somebody waits.
+    fn wake_next(&self, place: Place, out: &mut Sends) -> Result<(), NoMemory>
         requires { 1 ≤ place.nodes }
-        ensures { IfOk result (λ after. (after ≡ act) × (out.new ≡ out.old ++ wake_after place act self.now)) }
+        ensures { OnOk result (out.new ≡ out.old ++ wake_after place self.now) }
     {
-        if act == DirAct::Done && !self.entry.waiting.is_empty() {
+        if !self.is_busy() && !self.entry.waiting.is_empty() {
             let msg = Msg {
                 block: place.block,
                 body: Body::Wake,
@@ -315,7 +358,7 @@ impl HomeBlock {
                 msg,
             })?;
         }
-        Ok(act)
+        Ok(())
     }
 
     /// Whether copies are being called back.
@@ -324,6 +367,20 @@ impl HomeBlock {
     {
         matches!(self.entry.state, DirState::Busy { .. })
     }
+}
+
+/// Calls the copies of a block back from a few nodes.
+fn send_invalidations(place: Place, nodes: &[u32], out: &mut Sends) -> Result<(), NoMemory>
+    ensures { OnOk result (out.new ≡ out.old ++ map (invalidation_to place) nodes.now) }
+{
+    for node in nodes {
+        let msg = Msg {
+            block: place.block,
+            body: Body::Inv,
+        };
+        out.push(Outgoing { to: *node, msg })?;
+    }
+    Ok(())
 }
 
 /// The message that grants a block.

@@ -1,1 +1,3 @@
 pub mod ListLaws
+pub mod RisingLaws
+pub mod KnownLaws

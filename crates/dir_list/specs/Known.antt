@@ -1,5 +1,5 @@
 -- Who reads a block, as its home knows it. Own.
-use Rattle.std.specs.Prelude.{ℕ, ◌+◌, ◌-◌, ◌==◌, not, nat_lt, List, [], ◌∷◌, ◌++◌, length, Option, Some, None, if◌then◌else◌}
+use Rattle.std.specs.Prelude.{⊤, ℕ, ◌+◌, ◌-◌, ◌<◌, ◌≤◌, ◌==◌, not, nat_lt, List, [], ◌∷◌, ◌++◌, length, All, Option, Some, None, if◌then◌else◌}
 use Rattle.std.specs.List.{filter}
 use Rattle.dir_list.specs.declared.readers.Readers.{Readers}
 use Rattle.dir_list.specs.declared.readers.Readers.TheVariants.{Listed, Counted}
@@ -11,6 +11,16 @@ use Rattle.dir_list.specs.Lists.{in_order, taken_out}
 abbrev pub count_of : Readers → ℕ
 count_of (Listed nodes) = length nodes
 count_of (Counted count) = count
+
+-- there is a reader, and no more are listed than there are pointers
+abbrev pub AreSome : ℕ → Readers → Type 0
+AreSome pointers (Listed nodes) = (1 ≤ length nodes) × (length nodes ≤ pointers)
+AreSome pointers (Counted count) = 1 ≤ count
+
+-- those that are listed are nodes of a machine of so many
+abbrev pub AreBelow : ℕ → Readers → Type 0
+AreBelow nodes (Listed readers) = All (λ reader. reader < nodes) readers
+AreBelow nodes (Counted count) = ⊤
 
 -- the first reader is listed where there is a pointer
 abbrev pub first_of : ℕ → ℕ → Readers
@@ -32,6 +42,11 @@ left_of (Some (first ∷ rest)) = Left (Listed (first ∷ rest))
 abbrev pub remove_of : ℕ → Readers → Removed
 remove_of node (Listed nodes) = left_of (taken_out node nodes)
 remove_of node (Counted count) = if nat_lt 1 count then Left (Counted (count - 1)) else Empty
+
+-- what is true of the readers that are left
+abbrev pub IfLeft : Removed → (Readers → Type 0) → Type 0
+IfLeft (Left readers) Holds = Holds readers
+IfLeft _ Holds = ⊤
 
 -- the listed readers but for a node, rising, each once; None where there is no list
 abbrev pub others_of : ℕ → Readers → Option (List ℕ)

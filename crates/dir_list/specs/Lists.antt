@@ -1,5 +1,5 @@
 -- Lists of a few nodes. Own.
-use Rattle.std.specs.Prelude.{ℕ, suc, ◌==◌, nat_lt, List, [], ◌∷◌, length, Option, Some, None, if◌then◌else◌}
+use Rattle.std.specs.Prelude.{⊤, ℕ, suc, ◌+◌, ◌<◌, ◌≤◌, ◌==◌, nat_lt, List, [], ◌∷◌, length, Option, Some, None, if◌then◌else◌}
 use Rattle.std.specs.List.{remove}
 
 -- the place of the first entry of a node, and the length where there is none
@@ -19,6 +19,11 @@ with_node node (first ∷ rest) =
     if nat_lt node first then node ∷ (first ∷ rest)
     else if node == first then first ∷ rest
     else first ∷ with_node node rest
+
+-- nodes of a machine of so many, in rising order, from a node on
+abbrev pub AreRising : ℕ → ℕ → List ℕ → Type 0
+AreRising nodes from [] = ⊤
+AreRising nodes from (node ∷ rest) = (from ≤ node) × (node < nodes) × AreRising nodes (node + 1) rest
 
 -- the nodes of a list in rising order, each once
 abbrev pub in_order : List ℕ → List ℕ

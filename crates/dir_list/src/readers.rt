@@ -1,6 +1,6 @@
-ghost use Rattle.std.specs.Prelude.{◌≡◌, ◌<◌, ◌≤◌, ◌^◌, ◌==◌, not, length, Some};
+ghost use Rattle.std.specs.Prelude.{◌≡◌, ℕ, ◌<◌, ◌≤◌, ◌^◌, ◌==◌, not, length, Some};
 ghost use Rattle.std.specs.List.{filter};
-ghost use Rattle.dir_list.specs.Known.{add_of, count_of, first_of, left_of, others_of, remove_of};
+ghost use Rattle.dir_list.specs.Known.{AreSome, IfLeft, add_of, count_of, first_of, left_of, others_of, remove_of};
 ghost use Rattle.dir_list.specs.Lists.{in_order};
 
 use crate::few::Few;
@@ -28,7 +28,8 @@ pub enum Removed {
 impl Readers {
     /// One reader: listed where a home has a pointer or more, and else counted.
     pub fn first(node: u32, pointers: u32) -> Readers
-        ensures { result ≡ first_of node pointers }
+        ensures value { result ≡ first_of node pointers }
+        ensures some { AreSome pointers result }
     {
         if pointers == 0 {
             return Readers::Counted { count: 1 };
@@ -42,7 +43,8 @@ impl Readers {
     pub fn add(&self, node: u32, pointers: u32) -> Readers
         requires pointers { pointers ≤ 4 }
         requires count { count_of self.now < 2 ^ 63 }
-        ensures { result ≡ add_of node pointers self.now }
+        ensures value { result ≡ add_of node pointers self.now }
+        ensures some { AreSome pointers self.now → AreSome pointers result }
     {
         match self {
             Readers::Listed { nodes } => {
@@ -63,7 +65,8 @@ impl Readers {
 
     /// One reader less: the first entry of the node in the list, or one of those that are counted.
     pub fn remove(&self, node: u32) -> Removed
-        ensures { result ≡ remove_of node self.now }
+        ensures value { result ≡ remove_of node self.now }
+        ensures some { (pointers : ℕ) → AreSome pointers self.now → IfLeft result (AreSome pointers) }
     {
         match self {
             Readers::Listed { nodes } => match nodes.without(node) {

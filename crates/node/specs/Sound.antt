@@ -2,6 +2,7 @@
 use Rattle.std.specs.Prelude.{◌≡◌, ⊤, ℕ, ◌+◌, ◌*◌, ◌%◌, ◌^◌, ◌<◌, ◌≤◌, Bool, true, false, List, [], ◌∷◌, length, All, Option, Some}
 use Rattle.wt_params.specs.declared.parts.MachineParts.{MachineParts}
 use Rattle.wt_params.specs.Machine.{IsMachine, shared_block}
+use Rattle.dir_list.specs.Lists.{AreRising}
 use Rattle.rv_decode.specs.declared.instr.CicoOp.{CicoOp}
 use Rattle.rv_decode.specs.declared.instr.CicoOp.TheVariants.{CheckOutS, CheckOutX, CheckIn}
 use Rattle.rv_exec.specs.declared.effect.Effect.{Effect}
@@ -41,11 +42,6 @@ pub record DirectoryFits (machine : MachineParts) (number messages : ℕ) (direc
   pub node : directory.node ≡ number
   pub count : length directory.blocks ≡ count_of machine number
   pub blocks : All (BlockFits machine messages) directory.blocks
-
--- nodes of a machine of so many, in rising order, from a node on
-abbrev pub AreRising : ℕ → ℕ → List ℕ → Type 0
-AreRising nodes from [] = ⊤
-AreRising nodes from (node ∷ rest) = (from ≤ node) × (node < nodes) × AreRising nodes (node + 1) rest
 
 -- the barrier unit is that of the machine, with nodes of the machine
 pub record BarrierFits (machine : MachineParts) (barrier : Barrier) : Type 0 where

@@ -6,7 +6,8 @@ use borrow.Author.Tests.{eqb-true}
 use Rattle.target_barrier.specs.Barrier.{AreApart}
 use Rattle.wt_proto.proofs.NodeSetLaws.{nodes_below-more}
 use Rattle.std.specs.List.{list_all, range_with_len}
-use Rattle.wt_proto.specs.NodeSets.{has_node, with_node, nodes_below}
+use Rattle.dir_list.specs.Lists.{with_node}
+use Rattle.wt_proto.specs.NodeSets.{has_node, nodes_below}
 
 fails_in : (test : ℕ → Bool) (first count node : ℕ) → first ≤ node → node < first + count → test node ≡ false → list_all test (range_with_len first count) ≡ false
 fails_in test first zero node from below fails = absurd (omega arith)

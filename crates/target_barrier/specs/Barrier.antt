@@ -3,7 +3,8 @@ use Rattle.std.specs.Prelude.{◌≡◌, ℕ, Bool, true, false, ◌&&◌, ◌||
 use Rattle.std.specs.List.{list_all}
 use Rattle.wt_params.specs.Machine.{InRange}
 use Rattle.wt_proto.specs.declared.node_set.TheConstants.{MOST_NODES}
-use Rattle.wt_proto.specs.NodeSets.{has_node, with_node, nodes_below}
+use Rattle.dir_list.specs.Lists.{with_node}
+use Rattle.wt_proto.specs.NodeSets.{has_node, nodes_below}
 use Rattle.target_barrier.specs.declared.barrier.Release.{Release}
 use Rattle.target_barrier.specs.declared.barrier.Release.TheVariants.{Hold, Go, Stray}
 

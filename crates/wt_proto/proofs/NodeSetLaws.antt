@@ -10,7 +10,8 @@ use Rattle.std.specs.Int.RustNames.{bit_or}
 use Rattle.std.specs.Prelude.{◌==◌}
 use Rattle.std.specs.List.{filter, range_with_len}
 use mathlib.Core.Logic.{◌⊎◌, inl, inr}
-use Rattle.wt_proto.specs.NodeSets.{nodes_below, has_bit, members_from, has_node, with_node}
+use Rattle.dir_list.specs.Lists.{with_node}
+use Rattle.wt_proto.specs.NodeSets.{nodes_below, has_bit, members_from, has_node}
 
 range-more : (first count last : ℕ) → last ≡ first + count → range_with_len first (suc count) ≡ range_with_len first count ++ last ∷ []
 range-more first zero last is = ap (λ n. n ∷ []) (omega arith)

@@ -1,5 +1,5 @@
 -- Sets of nodes, as rising lists of numbers. Own.
-use Rattle.std.specs.Prelude.{ℕ, ◌/◌, ◌%◌, ◌==◌, nat_lt, Bool, List, [], ◌∷◌, slice_index, if◌then◌else◌}
+use Rattle.std.specs.Prelude.{ℕ, ◌/◌, ◌%◌, ◌==◌, Bool, List, slice_index}
 use Rattle.std.specs.Int.{bit_at}
 use Rattle.std.specs.List.{filter, list_any, range_with_len}
 
@@ -17,11 +17,3 @@ members_from first count words = filter (has_bit words) (range_with_len first co
 
 abbrev pub has_node : List ℕ → ℕ → Bool
 has_node nodes node = list_any (λ member. member == node) nodes
-
--- a rising list with a node in its place, where it isn't in it yet
-abbrev pub with_node : ℕ → List ℕ → List ℕ
-with_node node [] = node ∷ []
-with_node node (first ∷ rest) =
-    if nat_lt node first then node ∷ (first ∷ rest)
-    else if node == first then first ∷ rest
-    else first ∷ with_node node rest

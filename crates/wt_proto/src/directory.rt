@@ -1,13 +1,14 @@
 use crate::fifo::Fifo;
+use dir_list::Readers;
 
 /// Who holds copies of a block, as its home knows it.
-#[derive(Clone, Copy, Debug, PartialEq, Eq)]
+#[derive(Debug, Drop)]
 pub enum DirState {
     /// Nobody does.
     Idle,
-    /// So many nodes hold a copy to read. Which ones isn't known.
+    /// These nodes, or so many, hold a copy to read.
     Shared {
-        count: u64,
+        readers: Readers,
     },
     /// One node holds the block alone.
     Exclusive {

@@ -1,5 +1,6 @@
 ghost use Rattle.std.specs.Prelude.{◌≡◌, ◌<◌, [], slice_get};
-ghost use Rattle.wt_proto.specs.NodeSets.{has_bit, has_node, with_node};
+ghost use Rattle.dir_list.specs.Lists.{with_node};
+ghost use Rattle.wt_proto.specs.NodeSets.{has_bit, has_node};
 
 use std::marker::Model;
 
