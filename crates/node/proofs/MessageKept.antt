@@ -36,9 +36,11 @@ use Rattle.node.specs.Handled.{Handled, quiet, moved_on, to_home, message_to, se
 use Rattle.node.specs.DirectoryMessage.{trap_sends, trapped, trap_of, act_by, row_handled, directory_message_of}
 use Rattle.node.specs.InvMessage.{dirty_bytes, inv_by, inv_message_of}
 use Rattle.node.specs.BarrierMessage.{go_to, release_by, with_barrier, has_unit, arrive_message_of, leave_message_of, go_by, go_message_of}
-use Rattle.node.specs.Sound.{IsNode, CountsFit, DirectoryFits, BlockFits, BarrierFits, ModeFits, SendFits, AreRising}
+use Rattle.node.specs.Sound.{IsNode, CountsFit, DirectoryFits, BlockFits, BarrierFits, ModeFits, SendFits}
 use Rattle.node.proofs.Accesses.{dropped_fits, still_absent, held_line_fits, LineFitsOpt}
-use Rattle.node.proofs.Barriers.{ReleaseFits, rising_few, rising_below, arrive_fits, leave_fits}
+use Rattle.node.proofs.Barriers.{ReleaseFits, arrive_fits, leave_fits}
+use Rattle.dir_list.specs.Lists.{AreRising}
+use Rattle.dir_list.proofs.RisingLaws.{rising_few, rising_below}
 use Rattle.node.proofs.Traps.{few_targets, few_cycles}
 use Rattle.node.proofs.TrapRows.{silent_trap}
 use Rattle.node.proofs.Kept.{HasBegun, Same, Went, seen_more, settled, went_on, all_none, all_one, after_aligned, step_in_is}
@@ -335,10 +337,10 @@ module _ (machine : MachineParts) (time seen : ℕ) (old : NodeState) (is : HasB
       later = due;
     }
     acts (Trap plan) is_act =
-        traps plan (rw is_act at fitting.act) (trap_block plan is_act) (silent_trap place msg.body (block_of old.directory msg.block) plan is_act).0
+        traps plan (rw is_act at fitting.act) (trap_block plan is_act) (silent_trap place msg.body (block_of old.directory msg.block) plan is_act).sends
       where
         trap_block : (p : TrapPlan) → (row_of old.directory from msg).act ≡ Trap p → p.block < machine.blocks
-        trap_block p e = rw (silent_trap place msg.body (block_of old.directory msg.block) p e).1.0 exists
+        trap_block p e = rw (silent_trap place msg.body (block_of old.directory msg.block) p e).block exists
 
     handled : Went machine time time old (row_handled machine time msg.block (row_of old.directory from msg) old)
     handled = acts (row_of old.directory from msg).act refl

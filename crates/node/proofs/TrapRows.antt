@@ -21,15 +21,19 @@ use Rattle.dir1sw.specs.declared.home.Place.{Place}
 use Rattle.dir1sw.specs.Table.{Row, is_busy_state, quiet, granted_to, answer_of, invalidate_of, take_over_of, left_of, serve_of, request_of, put_s_of, put_x_of, with_wake, wake_after, grant_of, inv_ack_of, wake_of, arrive_of, with_state, with_memory}
 
 -- A row that traps sends nothing, its trap is about a block, and it leaves the entry Busy.
+pub record Silence (about : ℕ) (plan : TrapPlan) (row : Row) : Type 0 where
+  pub sends : row.sends ≡ []
+  pub block : plan.block ≡ about
+  pub busy : is_busy_state row.home.entry.state ≡ true
+
 abbrev IsSilent : ℕ → Row → Type 0
-IsSilent about row =
-    (plan : TrapPlan) → row.act ≡ Trap plan → (row.sends ≡ []) × (plan.block ≡ about) × (is_busy_state row.home.entry.state ≡ true)
+IsSilent about row = (plan : TrapPlan) → row.act ≡ Trap plan → Silence about plan row
 
 -- a row whose act is no trap
-no_trap : {Silent : Type 0} (plan : TrapPlan) → Done ≡ Trap plan → Silent
+no_trap : {about : ℕ} {row : Row} (plan : TrapPlan) → Done ≡ Trap plan → Silence about plan row
 no_trap plan is = absurd cc
 
-strays : {Silent : Type 0} (plan : TrapPlan) → Stray ≡ Trap plan → Silent
+strays : {about : ℕ} {row : Row} (plan : TrapPlan) → Stray ≡ Trap plan → Silence about plan row
 strays plan is = absurd cc
 
 a_trap : (about : ℕ) (targets : Targets) (plan : TrapPlan) → Trap (record { block = about; targets = targets }) ≡ Trap plan → plan.block ≡ about
@@ -48,7 +52,7 @@ invalidates place node (first ∷ rest) home = no_trap
 
 takes_over : (place : Place) (node : ℕ) (readers : Readers) (home : HomeBlock) → IsSilent place.block (take_over_of place (record { node = node; exclusive = true }) (others_of node readers) home)
 takes_over place node (Listed nodes) home = invalidates place node _ home
-takes_over place node (Counted count) home = either place.block (place.nodes == 1) _ _ no_trap (λ plan is. (refl, a_trap place.block (AllBut node) plan is, refl))
+takes_over place node (Counted count) home = either place.block (place.nodes == 1) _ _ no_trap (λ plan is. record { sends = refl; block = a_trap place.block (AllBut node) plan is; busy = refl })
 
 serves : (place : Place) (node : ℕ) (exclusive : Bool) (home : HomeBlock) → IsSilent place.block (serve_of place (record { node = node; exclusive = exclusive }) home)
 serves place node exclusive home = by exclusive home.entry.state
@@ -58,8 +62,8 @@ serves place node exclusive home = by exclusive home.entry.state
     by false (Shared readers) = no_trap
     by true Idle = no_trap
     by true (Shared readers) = takes_over place node readers (record { entry = record { state = Shared readers; waiting = home.entry.waiting }; memory = home.memory })
-    by false (Exclusive owner) = λ plan is. (refl, a_trap place.block (One owner) plan is, refl)
-    by true (Exclusive owner) = λ plan is. (refl, a_trap place.block (One owner) plan is, refl)
+    by false (Exclusive owner) = λ plan is. record { sends = refl; block = a_trap place.block (One owner) plan is; busy = refl }
+    by true (Exclusive owner) = λ plan is. record { sends = refl; block = a_trap place.block (One owner) plan is; busy = refl }
     by false (Busy from for_x left) = strays
     by true (Busy from for_x left) = strays
 
@@ -81,7 +85,11 @@ busy_wakes place (Exclusive owner) waiting memory busy = absurd cc
 wakes : (place : Place) (row : Row) → IsSilent place.block row → IsSilent place.block (with_wake place row)
 wakes place row silent plan is =
     let known = silent plan is in
-    (rw known.0 (busy_wakes place row.home.entry.state row.home.entry.waiting row.home.memory known.1.1), known.1.0, known.1.1)
+    record {
+      sends = rw known.sends (busy_wakes place row.home.entry.state row.home.entry.waiting row.home.memory known.busy);
+      block = known.block;
+      busy = known.busy;
+    }
 
 leaves : (about : ℕ) (left : Removed) (home : HomeBlock) → IsSilent about (left_of left home)
 leaves about Empty home = no_trap
@@ -105,7 +113,7 @@ acks place bytes (Busy from for_x left) waiting memory =
     let request : Request = record { node = from; exclusive = for_x } in
     let kept = with_memory (unwrap_or bytes memory) (block (Busy from for_x left) waiting memory) in
     let answer = answer_of place request (granted_to place request) kept in
-    either place.block (left == 1) (grant_of place request kept) (quiet Done (with_state (Busy from for_x (left - 1)) kept)) (wakes place answer no_trap) no_trap
+    either place.block (left == 1) (grant_of place request kept) (quiet Done (with_state (Busy from for_x (left - 1)) kept)) (wakes place answer no_trap) (no_trap)
 acks place bytes Idle waiting memory = strays
 acks place bytes (Shared readers) waiting memory = strays
 acks place bytes (Exclusive owner) waiting memory = strays
@@ -122,7 +130,7 @@ wakings place (Exclusive owner) (first ∷ rest) memory = wakes place (serve_of 
 after_put : (place : Place) (home : HomeBlock) → IsSilent place.block (request_of place true home)
 after_put place home = requests place true home.entry.state home.entry.waiting home.memory
 
-pub silent_trap : (place : Place) (body : Body) (home : HomeBlock) (plan : TrapPlan) → (arrive_of place body home).act ≡ Trap plan → ((arrive_of place body home).sends ≡ []) × (plan.block ≡ place.block) × (is_busy_state (arrive_of place body home).home.entry.state ≡ true)
+pub silent_trap : (place : Place) (body : Body) (home : HomeBlock) (plan : TrapPlan) → (arrive_of place body home).act ≡ Trap plan → Silence place.block plan (arrive_of place body home)
 silent_trap place GetS home = requests place false home.entry.state home.entry.waiting home.memory
 silent_trap place (GetX false) home = requests place true home.entry.state home.entry.waiting home.memory
 silent_trap place (GetX true) home = after_put place (put_s_of place.from home).home
