@@ -1,5 +1,5 @@
 -- The rows of the directory's tables leave and send what fits a machine.
-use Rattle.std.proofs.Common.{◌≡◌, ℕ, zero, suc, ◌+◌, ◌-◌, ◌%◌, ◌<◌, ◌≤◌, Bool, true, false, cond, List, [], ◌∷◌, ◌++◌, length, length-append, map, mod-lt, arith}
+use Rattle.std.proofs.Common.{◌≡◌, ℕ, zero, suc, ◌+◌, ◌-◌, ◌%◌, ◌<◌, ◌≤◌, Bool, true, false, cond, List, [], ◌∷◌, ◌++◌, length, length-append, mod-lt, arith}
 use Rattle.std.specs.Prelude.{All, IfSome, unwrap_or, Option, Some, None, ◌==◌}
 use Rattle.std.proofs.lemmas.List.{length-map}
 use Rattle.std.proofs.lemmas.List.Elements.{All-append, All-map}
@@ -17,7 +17,7 @@ use Rattle.wt_proto.specs.declared.message.Body.{Body}
 use Rattle.wt_proto.specs.declared.message.Body.TheVariants.{GetS, GetX, PutS, PutX, DataS, DataX, Inv, InvAck, Wake, Arrive, Leave, Go}
 use Rattle.wt_proto.specs.Messages.{MsgFits}
 use Rattle.dir1sw.specs.declared.home.DirAct.{DirAct}
-use Rattle.dir1sw.specs.declared.home.DirAct.TheVariants.{Done, Trap, Stray}
+use Rattle.dir1sw.specs.declared.home.DirAct.TheVariants.{Done, Stray}
 use Rattle.dir1sw.specs.declared.home.HomeBlock.{HomeBlock}
 use Rattle.dir1sw.specs.declared.home.Place.{Place}
 use Rattle.dir1sw.specs.Table.{Row, copies_of, grant_body, quiet, data_to, answer_of, invalidation_to, invalidate_of, take_over_of, serve_of, request_of, left_of, put_s_of, put_x_of, wake_after, with_wake, grant_of, inv_ack_of, wake_of, arrive_of}

@@ -1,10 +1,8 @@
 -- Without pointers the tables are those of the older machine.
-use Rattle.std.proofs.Common.{◌≡◌, ℕ, ◌+◌, ◌-◌, ◌<◌, ◌≤◌, ◌==◌, nat_lt, Bool, true, false, cond, List, [], ◌∷◌, ◌++◌, length, refl, ap, sym, ◌∙◌, subst, arith}
+use Rattle.std.proofs.Common.{◌≡◌, ℕ, ◌-◌, ◌≤◌, ◌==◌, nat_lt, Bool, true, false, cond, List, [], ◌∷◌, refl, ap, sym, ◌∙◌, subst, arith}
 use Rattle.std.proofs.lemmas.Bool.Decides.{nat_tests}
-use Rattle.std.specs.Prelude.{Option, unwrap_or}
-use Rattle.dir_list.specs.declared.readers.Readers.{Readers}
+use Rattle.std.specs.Prelude.{Option}
 use Rattle.dir_list.specs.declared.readers.Readers.TheVariants.{Listed, Counted}
-use Rattle.dir_list.specs.declared.readers.Removed.{Removed}
 use Rattle.dir_list.specs.declared.readers.Removed.TheVariants.{Left, Empty}
 use Rattle.wt_proto.specs.declared.directory.DirState.{DirState}
 use Rattle.wt_proto.specs.declared.directory.DirState.TheVariants.{Idle, Shared, Exclusive, Busy}
@@ -15,7 +13,7 @@ use Rattle.wt_proto.specs.declared.message.Body.TheVariants.{GetS, GetX, PutS, P
 use Rattle.dir1sw.specs.declared.home.DirAct.TheVariants.{Done}
 use Rattle.dir1sw.specs.declared.home.HomeBlock.{HomeBlock}
 use Rattle.dir1sw.specs.declared.home.Place.{Place}
-use Rattle.dir1sw.specs.Table.{Row, IsSound, is_busy_state, quiet, answer_of, call_back_of, left_of, serve_of, request_of, put_s_of, with_wake, grant_of, inv_ack_of, wake_of, arrive_of, with_state}
+use Rattle.dir1sw.specs.Table.{Row, IsSound, is_busy_state, quiet, answer_of, call_back_of, left_of, serve_of, request_of, put_s_of, with_wake, inv_ack_of, wake_of, arrive_of, with_state}
 use Rattle.dir1sw.specs.VersionOne.{AreRowsOfVersion1, counted, serve_1, request_1, put_s_1, with_wake_1, inv_ack_1, wake_1, arrive_1}
 
 abbrev block : DirState → List Request → List ℕ → HomeBlock

@@ -2,7 +2,6 @@
 -- done. A row of a table is a clause. After Dir1SW (Hill, Larus, Reinhardt, Wood, Cooperative Shared Memory, 1993);
 -- own in all details.
 use Rattle.std.specs.Prelude.{◌≡◌, ℕ, ◌-◌, ◌%◌, ◌≤◌, ◌==◌, Bool, true, false, if◌then◌else◌, List, [], ◌∷◌, ◌++◌, length, map, Option, Some, None, unwrap_or}
-use Rattle.dir_list.specs.declared.readers.Readers.{Readers}
 use Rattle.dir_list.specs.declared.readers.Removed.{Removed}
 use Rattle.dir_list.specs.declared.readers.Removed.TheVariants.{Left, Empty, Absent}
 use Rattle.dir_list.specs.Known.{AreSome, count_of, first_of, add_of, remove_of, others_of}

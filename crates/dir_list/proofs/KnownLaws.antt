@@ -1,17 +1,16 @@
 -- What readers have in common, whoever comes and goes.
-use Rattle.std.proofs.Common.{◌≡◌, ℕ, zero, suc, ◌+◌, ◌-◌, ◌<◌, ◌≤◌, ◌==◌, nat_lt, not, Bool, true, false, cond, List, [], ◌∷◌, ◌++◌, length, length-append, eqb-true, refl, ap, sym, ◌∙◌, subst, arith}
+use Rattle.std.proofs.Common.{◌≡◌, ℕ, zero, suc, ◌+◌, ◌-◌, ◌<◌, ◌≤◌, ◌==◌, nat_lt, not, Bool, true, false, cond, List, [], ◌∷◌, ◌++◌, length, length-append, refl, arith}
 use Rattle.std.proofs.lemmas.Bool.Decides.{nat_tests}
 use Rattle.std.proofs.lemmas.List.Edits.{length-remove}
 use Rattle.std.proofs.lemmas.List.Elements.{All-append, All-filter, All-take, All-drop}
-use Rattle.std.specs.Prelude.{All, Option, Some, None, take, drop}
+use Rattle.std.specs.Prelude.{All, Some, None, take, drop}
 use Rattle.std.specs.List.{filter, remove}
 use Rattle.dir_list.specs.declared.readers.Readers.{Readers}
 use Rattle.dir_list.specs.declared.readers.Readers.TheVariants.{Listed, Counted}
-use Rattle.dir_list.specs.declared.readers.Removed.{Removed}
-use Rattle.dir_list.specs.declared.readers.Removed.TheVariants.{Left, Empty, Absent}
+use Rattle.dir_list.specs.declared.readers.Removed.TheVariants.{Left, Empty}
 use Rattle.dir_list.specs.Lists.{AreRising, first_place, taken_out, in_order}
 use Rattle.dir_list.proofs.RisingLaws.{rising_few, rising_below, rising_in_order}
-use Rattle.dir_list.specs.Known.{AreSome, AreBelow, IfLeft, count_of, first_of, add_of, left_of, remove_of, others_of}
+use Rattle.dir_list.specs.Known.{AreSome, AreBelow, IfLeft, count_of, first_of, add_of, left_of, remove_of}
 
 one_reader : (nodes node : ℕ) → node < nodes → All (λ reader. reader < nodes) (node ∷ [])
 one_reader nodes node below zero d within = below

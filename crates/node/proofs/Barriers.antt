@@ -1,12 +1,9 @@
 -- The nodes at a barrier are nodes of the machine, each once.
-use Rattle.std.proofs.Common.{ℕ, zero, suc, ◌+◌, ◌<◌, ◌≤◌, Bool, true, false, cond, List, [], ◌∷◌, length, arith, inl, inr}
-use Rattle.std.specs.Prelude.{◌==◌, nat_lt, All}
-use Rattle.std.proofs.lemmas.Bool.{cases_Bool}
-use Rattle.std.proofs.lemmas.Bool.Decides.{nat_tests}
+use Rattle.std.proofs.Common.{ℕ, ◌<◌, Bool, true, false, cond, [], arith}
 use Rattle.wt_params.specs.declared.parts.MachineParts.{MachineParts}
 use Rattle.wt_params.specs.Machine.{IsMachine}
 use Rattle.dir_list.specs.Lists.{AreRising, with_node}
-use Rattle.dir_list.proofs.RisingLaws.{rising_with, rising_few, rising_below}
+use Rattle.dir_list.proofs.RisingLaws.{rising_with, rising_few}
 use Rattle.target_barrier.specs.declared.barrier.Release.{Release}
 use Rattle.target_barrier.specs.declared.barrier.Release.TheVariants.{Hold, Go, Stray}
 use Rattle.target_barrier.specs.Barrier.{Barrier, is_known, is_complete, opened, arrive_of, leave_of}

@@ -14,7 +14,6 @@ use Rattle.wt_proto.specs.declared.directory.Targets.TheVariants.{AllBut, One}
 use Rattle.wt_proto.specs.declared.directory.TrapPlan.{TrapPlan}
 use Rattle.wt_proto.specs.declared.message.Body.{Body}
 use Rattle.wt_proto.specs.declared.message.Body.TheVariants.{GetS, GetX, PutS, PutX, DataS, DataX, Inv, InvAck, Wake, Arrive, Leave, Go}
-use Rattle.wt_proto.specs.declared.message.Outgoing.{Outgoing}
 use Rattle.dir1sw.specs.declared.home.DirAct.TheVariants.{Done, Trap, Stray}
 use Rattle.dir1sw.specs.declared.home.HomeBlock.{HomeBlock}
 use Rattle.dir1sw.specs.declared.home.Place.{Place}

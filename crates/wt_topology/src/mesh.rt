@@ -26,10 +26,13 @@ pub fn latency(machine: &Machine, from: u32, to: u32) -> u64
     ensures range { InRange 1 61000 result }
 {
     if from == to {
-        machine.self_latency()
-    } else {
-        machine.latency() + machine.hop() * distance(machine, from, to)
+        return machine.self_latency();
     }
+    let hop = machine.hop();
+    if hop == 0 {
+        return machine.latency();
+    }
+    machine.latency() + hop * distance(machine, from, to)
 }
 
 /// The least of the latencies between different nodes, and `latency` where there is one node.
