@@ -1,3 +1,4 @@
 pub mod Table
+pub mod VersionOne
 pub mod Homes
 pub mod Fits

@@ -2,6 +2,7 @@ ghost use Rattle.std.specs.Prelude.{◌≡◌, ◌+◌, ◌^◌, ◌<◌, ◌≤
 ghost use Rattle.std.specs.List.{splice};
 ghost use Rattle.dir1sw.specs.Table.{copies_of, with_memory};
 ghost use Rattle.dir1sw.specs.Fits.{RowsFit};
+ghost use Rattle.dir1sw.specs.VersionOne.{AreRowsOfVersion1};
 ghost use Rattle.dir1sw.specs.Homes.{IsHome, IsBrokenFrom, fresh_block, start_of, block_of, with_block, row_of};
 
 use crate::home::{DirAct, HomeBlock, Place};
@@ -141,4 +142,9 @@ fn fresh_blocks(alloc: Global, machine: &Machine, count: usize) -> Result<Vec<Ho
 /// most a message to each node and one more is sent, and at most one copy more is known.
 pub fn rows_fit()
     ensures { RowsFit }
+{}
+
+/// The law of machines without pointers: each row is that of the older machine, which lists no readers.
+pub fn rows_of_version_1()
+    ensures { AreRowsOfVersion1 }
 {}

@@ -5,5 +5,5 @@
 mod directory;
 mod home;
 
-pub use directory::{Directory, rows_fit};
+pub use directory::{Directory, rows_fit, rows_of_version_1};
 pub use home::{DirAct, HomeBlock, Place};

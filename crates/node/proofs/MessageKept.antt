@@ -23,7 +23,7 @@ use Rattle.target_cache.specs.Cached.{line_of, drop_of}
 use Rattle.dir1sw.specs.declared.home.DirAct.{DirAct}
 use Rattle.dir1sw.specs.declared.home.DirAct.TheVariants.{Done, Trap, Stray}
 use Rattle.dir1sw.specs.declared.home.Place.{Place}
-use Rattle.dir1sw.specs.Homes.{Homes, block_of, with_block, row_of, count_of, fresh_block}
+use Rattle.dir1sw.specs.Homes.{Homes, block_of, with_block, place_of, row_of, count_of, fresh_block}
 use Rattle.dir1sw.specs.Fits.{RowFits, ActFits, SendFits as OutgoingFits}
 use Rattle.dir1sw.proofs.FitsLaws.{rows_fit_law}
 use Rattle.target_barrier.specs.declared.barrier.Release.{Release}
@@ -36,9 +36,11 @@ use Rattle.node.specs.Handled.{Handled, quiet, moved_on, to_home, message_to, se
 use Rattle.node.specs.DirectoryMessage.{trap_sends, trapped, trap_of, act_by, row_handled, directory_message_of}
 use Rattle.node.specs.InvMessage.{dirty_bytes, inv_by, inv_message_of}
 use Rattle.node.specs.BarrierMessage.{go_to, release_by, with_barrier, has_unit, arrive_message_of, leave_message_of, go_by, go_message_of}
-use Rattle.node.specs.Sound.{IsNode, CountsFit, DirectoryFits, BlockFits, BarrierFits, ModeFits, SendFits, AreRising}
+use Rattle.node.specs.Sound.{IsNode, CountsFit, DirectoryFits, BlockFits, BarrierFits, ModeFits, SendFits}
 use Rattle.node.proofs.Accesses.{dropped_fits, still_absent, held_line_fits, LineFitsOpt}
-use Rattle.node.proofs.Barriers.{ReleaseFits, rising_few, rising_below, arrive_fits, leave_fits}
+use Rattle.node.proofs.Barriers.{ReleaseFits, arrive_fits, leave_fits}
+use Rattle.dir_list.specs.Lists.{AreRising}
+use Rattle.dir_list.proofs.RisingLaws.{rising_few, rising_below}
 use Rattle.node.proofs.Traps.{few_targets, few_cycles}
 use Rattle.node.proofs.TrapRows.{silent_trap}
 use Rattle.node.proofs.Kept.{HasBegun, Same, Went, seen_more, settled, went_on, all_none, all_one, after_aligned, step_in_is}
@@ -242,9 +244,9 @@ module _ (machine : MachineParts) (time seen : ℕ) (old : NodeState) (is : HasB
     kept = is.directory.blocks (msg.block / old.directory.machine.nodes) (fresh_block old.directory.machine) inside
 
     abbrev place : Place
-    place = record { nodes = old.directory.machine.nodes; block = msg.block; from = from }
+    place = place_of old.directory msg.block from
 
-    fitting : RowFits machine (block_of old.directory msg.block) 2 (row_of old.directory from msg)
+    fitting : RowFits machine (block_of old.directory msg.block) (machine.nodes + 1) (row_of old.directory from msg)
     fitting =
         rows_fit_law machine _ msg.body (block_of old.directory msg.block)
         (record { some = is.numbers.nodes.at_least; nodes = ap (λ (m : MachineParts). m.nodes) directory_machine; from = there; block = exists }) fits.«data» kept.home_fits
@@ -284,7 +286,7 @@ module _ (machine : MachineParts) (time seen : ℕ) (old : NodeState) (is : HasB
     row_sends : All (SendFits machine time) (map (sent_at time) (row_of old.directory from msg).sends)
     row_sends = all_sent machine time time (row_of old.directory from msg).sends (omega arith) (omega arith) fitting.sends
 
-    row_few : length (map (sent_at time) (row_of old.directory from msg).sends) ≤ 2
+    row_few : length (map (sent_at time) (row_of old.directory from msg).sends) ≤ machine.nodes + 1
     row_few = let few = fitting.few in omega (arith, length-map (row_of old.directory from msg).sends (sent_at time))
 
     -- a trap
@@ -324,21 +326,21 @@ module _ (machine : MachineParts) (time seen : ℕ) (old : NodeState) (is : HasB
       still = record { number = refl; steps = refl; messages = refl; sent = refl; last = refl; traced = refl; log = refl };
       sound = sound_after old.busy old.counters (let b = is.busy in omega arith) (let room = is.counts in grind arith) refl;
       sends = row_sends;
-      few = let few = row_few in let some = is.numbers.nodes.at_least in omega arith;
+      few = row_few;
       later = due;
     }
     acts Stray is_act = record {
       still = record { number = refl; steps = refl; messages = refl; sent = refl; last = refl; traced = refl; log = refl };
       sound = sound_after old.busy (one_stray old).counters (let b = is.busy in omega arith) (let room = is.counts in grind arith) refl;
       sends = row_sends;
-      few = let few = row_few in let some = is.numbers.nodes.at_least in omega arith;
+      few = row_few;
       later = due;
     }
     acts (Trap plan) is_act =
-        traps plan (rw is_act at fitting.act) (trap_block plan is_act) (silent_trap place msg.body (block_of old.directory msg.block) plan is_act).0
+        traps plan (rw is_act at fitting.act) (trap_block plan is_act) (silent_trap place msg.body (block_of old.directory msg.block) plan is_act).sends
       where
         trap_block : (p : TrapPlan) → (row_of old.directory from msg).act ≡ Trap p → p.block < machine.blocks
-        trap_block p e = rw (silent_trap place msg.body (block_of old.directory msg.block) p e).1 exists
+        trap_block p e = rw (silent_trap place msg.body (block_of old.directory msg.block) p e).block exists
 
     handled : Went machine time time old (row_handled machine time msg.block (row_of old.directory from msg) old)
     handled = acts (row_of old.directory from msg).act refl
