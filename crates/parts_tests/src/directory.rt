@@ -1,5 +1,4 @@
 ghost use Rattle.std.specs.Prelude.{OnOk};
-ghost use Rattle.wt_params.specs.Machine.{InRange};
 ghost use Rattle.dir1sw.specs.Homes.{IsHome};
 
 use dir_list::Readers;
@@ -7,7 +6,8 @@ use dir1sw::{DirAct, Directory};
 use std::alloc::{AllocError, Global};
 use std::process::Abort;
 use std::test::Fail;
-use test_machines::{machine_with, small_parts};
+use test_machines::small_parts;
+use wt_params::Machine;
 use wt_proto::{Block, Body, DirState, Msg, Sends};
 
 // A row has who sends a message, its name, the byte that fills its block, and what comes of it: the act, the entry's
@@ -182,13 +182,11 @@ fn check(rt: &impl Abort, alloc: Global, directory: &mut Directory, row: &str) -
 }
 
 /// Sends messages to the directory of node 0, of so many nodes, that lists so many readers.
-fn run(rt: &impl Abort, alloc: Global, nodes: u64, pointers: u64, rows: &str) -> Result<(), Fail>
-    requires nodes { InRange 1 32 nodes }
-    requires pointers { InRange 0 4 pointers }
-{
+fn run(rt: &impl Abort, alloc: Global, nodes: u64, pointers: u64, rows: &str) -> Result<(), Fail> {
     let mut parts = small_parts(nodes);
     parts.pointers = pointers;
-    let machine = machine_with(parts);
+    let machine = Machine::new(parts).ok().ok_or("no machine")?;
+    assert!(rt; machine.nodes() > 0);
     assert!(rt; machine.blocks() > 0 && machine.home(0) == 0);
     let mut directory = Directory::new(alloc, &machine, 0)?;
     for row in rows.split('\n') {
