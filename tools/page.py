@@ -5,8 +5,8 @@
 
 The page needs nothing from elsewhere: any browser opens it, also without a network. A lane for each
 node shows when it ran, waited for which block, stood in the barrier or trapped. Below stands the
-directory entry of the block that is chosen: the events tell it, but for a machine with `pointers`,
-which --machine names. A click or a key goes to the next event of a block.
+directory entry of the block that is chosen; that it lists readers is known by --machine alone, from
+the machine's `pointers`. A click or a key goes to the next event of a block.
 
 All messages from --from to --to are in the page. Of steps there are as many as --steps allows,
 the first ones, and those that ask for a block or stop. Where there are more messages than the page
