@@ -59,7 +59,7 @@ class MissesTest(ToolTest):
         worked = row("pointers", "two pointers")
         hops = self.told("--life", 1, 2, given=worked.out.decode()).splitlines()
         self.assertEqual(hops[0], "wait 2 of node 1: 220 cycles for an upgrade")
-        self.assertIn("gets GetX+ from node 1 (had by node 0 to read), sends Inv to node 0", hops[2])
+        self.assertIn("GetX+ from node 1 (had by node 0 to read), sends Inv to node 0", hops[2])
         self.assertEqual([hop.split()[:2] for hop in hops[1:]], [
             ["205", "+0"], ["305", "+100"], ["315", "+10"], ["325", "+10"], ["425", "+100"]])
 

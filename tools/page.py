@@ -180,7 +180,7 @@ def page_of(data):
 
 
 def pointers_of(path):
-    """How many readers an entry of a described machine lists; none where no description is given."""
+    """How many readers an entry of a described machine can list; none without a description."""
     if path is None:
         return 0
     description = read_description(path)
