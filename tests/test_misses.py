@@ -3,6 +3,8 @@ import unittest
 
 from support import MEET, ToolTest, read, simulate, tool
 
+from worked_rows import row
+
 MEET_TEXT = read(MEET)
 # node 0 stores, and node 1 loads the same word, once before and once after a barrier
 RACE = """event 0 0 step 0x00000000 0x00a2a023 > 0 GetX 0x80000000 at 10 #0
@@ -52,6 +54,14 @@ class MissesTest(ToolTest):
     def test_longest_life(self):
         self.assertIn("wait 2 of node 1: 485 cycles for a read", self.told("--life", 1,
                                                                             given=MEET_TEXT))
+
+    def test_life_of_an_upgrade_at_a_list(self):
+        worked = row("pointers", "two pointers")
+        hops = self.told("--life", 1, 2, given=worked.out.decode()).splitlines()
+        self.assertEqual(hops[0], "wait 2 of node 1: 220 cycles for an upgrade")
+        self.assertIn("GetX+ from node 1 (had by node 0 to read), sends Inv to node 0", hops[2])
+        self.assertEqual([hop.split()[:2] for hop in hops[1:]], [
+            ["205", "+0"], ["305", "+100"], ["315", "+10"], ["325", "+10"], ["425", "+100"]])
 
     def test_words_of_a_life(self):
         self.assertEqual(self.told("--life", 2, 1, MEET), self.told(MEET, "--life", 2))

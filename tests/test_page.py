@@ -8,6 +8,8 @@ import unittest
 
 from support import MEET, ToolTest, read, simulate, tool, write
 
+from worked_rows import row
+
 # node 0 is the home; 1 and 2 read, 1 wants to write, 3 waits, and all but 1 answer
 SHARED_BY_TWO = """event 100 0 from 1 #0 GetS 0x80000000 > 1 DataS 0x80000000 at 200 #0
 event 101 0 from 2 #0 GetS 0x80000000 > 2 DataS 0x80000000 at 201 #1
@@ -95,6 +97,42 @@ class PageTest(ToolTest):
             [765, "Busy for 1 to write, 1 left; waiting: 3 to read"],
             [765, "Exclusive of 1; waiting: 3 to read"], [770, "Idle; waiting: 3 to read"],
             [775, "Shared by 1"], [900, "Idle"]])
+
+    def entries_of(self, name, *words):
+        """The entries of the first block in a worked command of the rows with pointers."""
+        worked = row("pointers", name)
+        with tempfile.TemporaryDirectory() as room:
+            worked.write(room)
+            page = tool(self.name, *words, given=worked.out.decode(), folder=room)
+        self.assertEqual(page.stderr, "")
+        return self.data_of(page.stdout)["entries"]["0"]
+
+    def test_listed_readers(self):
+        name = "a listed reader gives its copy back"
+        self.assertEqual(self.entries_of(name, "--machine", "m"), [
+            [101, "Shared by node 1"], [101, "Shared by node 1, node 2"],
+            [305, "Shared by node 2"], [305, "Busy for 3 to write, 1 left"],
+            [505, "Exclusive of 3"]])
+        self.assertEqual(self.entries_of(name)[:3], [
+            [101, "Shared by 1"], [101, "Shared by 2"], [305, "Shared by 1"]])
+
+    def test_more_readers_than_pointers(self):
+        name = "a count does not become a list again"
+        self.assertEqual(self.entries_of(name, "--machine", "m"), [
+            [101, "Shared by node 1"], [101, "Shared by 2"], [305, "Shared by 1"],
+            [305, "Busy for 3 to write, 3 left"], [590, "Busy for 3 to write, 2 left"],
+            [770, "Busy for 3 to write, 1 left"], [770, "Exclusive of 3"]])
+
+    def test_upgrade_of_a_listed_reader(self):
+        self.assertEqual(self.entries_of("two pointers", "--machine", "m"), [
+            [11, "Shared by node 0"], [101, "Shared by node 0, node 1"],
+            [305, "Busy for 1 to write, 1 left"], [325, "Exclusive of 1"]])
+
+    def test_a_machine_that_is_none(self):
+        with tempfile.TemporaryDirectory() as room:
+            path = f"{room}/m.json"
+            write(path, '{"version": 2, "nodes": 2, "pointers": 5}')
+            self.refused("pointers is 5", "--machine", path, MEET)
 
     def test_a_window(self):
         data = self.data_of(self.page_of("--from", 400, "--to", 900, MEET))

@@ -168,7 +168,8 @@ def print_life(life, images):
     if life.kept is None:
         raise ToolError(f"node {life.node} waited for a block {life.count} times in this trace")
     length, number, wait, _ = life.kept
-    print(f"wait {number} of node {life.node}: {length} cycles for a {wait.kind}")
+    article = "an" if wait.kind == "upgrade" else "a"
+    print(f"wait {number} of node {life.node}: {length} cycles for {article} {wait.kind}")
     before = wait.begun
     for event in life.hops():
         print(f"{event.time:>10} {'+' + str(event.time - before):>7}  "

@@ -5,7 +5,8 @@
 
 The page needs nothing from elsewhere: any browser opens it, also without a network. A lane for each
 node shows when it ran, waited for which block, stood in the barrier or trapped. Below stands the
-directory entry of the block that is chosen. A click or a key goes to the next event of a block.
+directory entry of the block that is chosen; that it lists readers is known by --machine alone, from
+the machine's `pointers`. A click or a key goes to the next event of a block.
 
 All messages from --from to --to are in the page. Of steps there are as many as --steps allows,
 the first ones, and those that ask for a block or stop. Where there are more messages than the page
@@ -15,9 +16,11 @@ import json
 import os
 import sys
 
+from check_machine import field_faults, read_description
 from wwt_code import Images, add_images, text_of
 from wwt_directory import Entries
-from wwt_tool import add_input, call, parser_of, warn
+from wwt_machine import value_of
+from wwt_tool import ToolError, add_input, call, parser_of, warn
 from wwt_trace import SHARED, Waits, deed_text, open_report
 
 AT_ONCE = 100000  # events that a page shows at once
@@ -78,11 +81,11 @@ class States:
 class Page:
     """Gathers what a page shows, event after event."""
 
-    def __init__(self, begin, end, most):
+    def __init__(self, begin, end, most, pointers):
         self.begin, self.end, self.most = begin, end, most
         self.events, self.states, self.traps, self.entries = [], States(), [], {}
         self.texts, self.blocks, self.homes, self.uses = Numbers(), Numbers(), {}, {}
-        self.waits, self.directory = Waits(), Entries()
+        self.waits, self.directory = Waits(), Entries(pointers)
         self.sent, self.busy, self.steps, self.left_out = {}, {}, 0, 0
         self.block_bytes, self.nodes, self.last = 0, 0, 0
 
@@ -176,10 +179,23 @@ def page_of(data):
     return text.replace("/*DATA*/", told, 1)
 
 
+def pointers_of(path):
+    """How many readers an entry of a described machine can list; none without a description."""
+    if path is None:
+        return 0
+    description = read_description(path)
+    faults = field_faults(description)
+    if faults:
+        raise ToolError(f"{path}: {faults[0]}")
+    return value_of(description, "pointers")
+
+
 def words_of():
     parser = parser_of(__doc__)
     add_input(parser)
     add_images(parser)
+    parser.add_argument("--machine", metavar="MACHINE",
+                        help="the description that was run, for its `pointers`")
     parser.add_argument("--from", type=int, default=0, metavar="CYCLE", dest="begin",
                         help="no event before this cycle")
     parser.add_argument("--to", type=int, metavar="CYCLE", dest="end",
@@ -192,7 +208,7 @@ def words_of():
 def main():
     words = words_of()
     images, report = Images(words.images), open_report(words.input)
-    page = Page(words.begin, words.end, words.steps)
+    page = Page(words.begin, words.end, words.steps, pointers_of(words.machine))
     for event in report.events():
         if words.end is not None and event.time > words.end:
             break

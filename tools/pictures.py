@@ -137,27 +137,28 @@ def state(picture, x, y, title, line, colour):
 def directory():
     picture = Picture(900, 530)
     state(picture, 120, 260, "Idle", "no copy", SOFT)
-    state(picture, 430, 70, "Shared c", "c copies to read", GREEN)
+    state(picture, 430, 70, "Shared", "readers: a list, or a count", GREEN)
     state(picture, 430, 450, "Exclusive p", "node p has it alone", BLUE)
     state(picture, 730, 260, "Busy", "left answers are awaited", RED)
     picture.line("M140 230 C170 120,240 75,350 68", GREEN)
-    picture.text(150, 130, "GetS from r: Shared 1,", size=11)
-    picture.text(150, 145, "DataS to r", size=11)
+    picture.text(150, 130, "GetS from r: its first", size=11)
+    picture.text(150, 145, "reader; DataS to r", size=11)
     picture.line("M352 84 C290 110,220 170,185 234", PURPLE)
-    picture.text(300, 176, "PutS, the last copy", size=11)
+    picture.text(300, 176, "PutS from the last reader", size=11)
     picture.line("M400 40 C385 5,475 5,460 40", GREEN)
-    picture.text(500, 18, "GetS from r: c + 1, DataS to r.  PutS: c - 1", "start", size=11)
+    picture.text(500, 18, "GetS from r: a reader more, DataS to r.  PutS: a reader less", "start", size=11)
     picture.line("M140 290 C170 400,240 445,350 452", BLUE)
     picture.text(150, 390, "GetX from r: Exclusive r,", size=11)
     picture.text(150, 405, "DataX to r", size=11)
     picture.line("M352 436 C290 410,220 350,185 286", PURPLE)
     picture.text(300, 350, "PutX from p, with the bytes", size=11)
     picture.line("M510 60 C620 75,720 130,745 230", RED)
-    picture.text(728, 112, "GetX from r: a trap,", "start", RED, 11)
-    picture.text(728, 127, "Inv to all nodes but r; left N - 1", "start", RED, 11)
+    for y, text in ((82, "GetX from r, by a list: Inv to"), (97, "the k others; left k."),
+                    (112, "By a count: a trap, Inv to"), (127, "all nodes but r; left N - 1")):
+        picture.text(728, y, text, "start", RED, 11)
     picture.line("M690 230 C640 170,560 110,500 90", GREEN)
     picture.text(536, 172, "the last InvAck,", size=11)
-    picture.text(536, 187, "for S: Shared 1, DataS", size=11)
+    picture.text(536, 187, "for S: Shared, DataS", size=11)
     picture.line("M510 462 C620 445,720 390,745 290", RED)
     picture.text(728, 398, "GetS or GetX from r: a trap,", "start", RED, 11)
     picture.text(728, 413, "Inv to p; left 1", "start", RED, 11)
@@ -170,8 +171,8 @@ def directory():
     picture.text(450, 500, "After a grant, a Wake to the home itself takes up the first request that "
                  "waits. A GetX whose sender had a copy does first what its PutS would do.",
                  colour=SOFT, size=11)
-    picture.text(450, 516, "On a machine of one node nobody has to be called back: GetX leads from "
-                 "Shared to Exclusive at once.", colour=SOFT, size=11)
+    picture.text(450, 516, "Where its sender alone is listed, and on a machine of one node, nobody has "
+                 "to be called back: GetX leads from Shared to Exclusive at once.", colour=SOFT, size=11)
     return picture
 
 
