@@ -21,6 +21,9 @@ Without, what is measured: a whole call, from its start to the end of its report
   run: 1 node, run: 8 nodes          the arithmetic by `wwt run`, on one node and on 8, a million instructions in all
   run: misses                        8 nodes that write the same blocks in turn, so that nearly every access is a miss,
                                      which the home serves by a trap
+  run: sharing                       16 nodes that read 16 blocks of 128 bytes and write each fourth of them
+  run: readers on 2, 256 nodes       nodes that read blocks and check them in, on a mesh: what an event costs on few nodes
+                                     and on many
   load 92, load 93                   the generated machines of these numbers: all to all on 32 nodes, and a stencil
 
 Each is called RUNS times, and the best call counts, since a single call takes so little time that what else the machine
@@ -94,6 +97,28 @@ NOTHING = [0]
 MISSES = [5 << 20 | 7 << 15 | 2 << 12 | 0x23 | block << 25 for block in range(16)]
 
 
+BLOCKS = 16
+
+
+def load_of(block, size):
+    """x5 = the first word of a block of so many bytes."""
+    return block * size << 20 | 7 << 15 | 2 << 12 | 5 << 7 | 0x03
+
+
+def store_of(block, size):
+    """The first word of a block = x5."""
+    offset = block * size
+    return offset >> 5 << 25 | 5 << 20 | 7 << 15 | 2 << 12 | (offset & 31) << 7 | 0x23
+
+
+def check_in_of(block, size):
+    return block * size << 20 | 7 << 15 | 2 << 12 | 0x0B
+
+
+SHARING = [*(load_of(block, 128) for block in range(BLOCKS)), *(store_of(block, 128) for block in range(0, BLOCKS, 4))]
+READERS = [word for block in range(BLOCKS) for word in (load_of(block, 32), check_in_of(block, 32))]
+
+
 def endless(begin, body):
     return [*begin, *body, jump_back(len(body))]
 
@@ -102,10 +127,10 @@ def image(words):
     return b"".join(word.to_bytes(4, "little") for word in words)
 
 
-def machine(nodes, budget, words, **numbers):
+def machine(nodes, budget, words, version=1, **numbers):
     """The description of a machine all of whose nodes run these words until the budget is spent."""
     images = [{"hex": image(words).hex()}]
-    return json.dumps({"version": 1, "nodes": nodes, "budget": budget, "images": images, **numbers}).encode()
+    return json.dumps({"version": version, "nodes": nodes, "budget": budget, "images": images, **numbers}).encode()
 
 
 class Case:
@@ -137,8 +162,14 @@ class Case:
         return int(entries["events"]), took, used.ru_utime + used.ru_stime
 
 
-def run_case(name, nodes, budget, words):
-    return Case(name, ["run", "machine.json"], "budget", described=machine(nodes, budget, words))
+def run_case(name, nodes, budget, words, **numbers):
+    return Case(name, ["run", "machine.json"], "budget", described=machine(nodes, budget, words, **numbers))
+
+
+def readers_case(nodes, budget, width):
+    name = f"run: readers on {nodes} nodes"
+    words = endless(BEGIN_SHARED, READERS)
+    return run_case(name, nodes, budget, words, version=2, private_bytes=4096, hop=10, width=width)
 
 
 CASES = [
@@ -148,6 +179,9 @@ CASES = [
     run_case("run: 1 node", 1, 1000000, endless(BEGIN, ARITHMETIC)),
     run_case("run: 8 nodes", 8, 125000, endless(BEGIN, ARITHMETIC)),
     run_case("run: misses", 8, 2000000, endless(BEGIN_SHARED, MISSES)),
+    run_case("run: sharing", 16, 1000000, endless(BEGIN_SHARED, SHARING), block_bytes=128),
+    readers_case(2, 10000000, 2),
+    readers_case(256, 80000, 16),
     Case("load 92", ["load", "92"], "finished"),
     Case("load 93", ["load", "93"], "finished"),
 ]
