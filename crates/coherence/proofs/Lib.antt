@@ -7,3 +7,4 @@ pub mod Wakes
 pub mod Steps
 pub mod Strays
 pub mod Lines
+pub mod Built

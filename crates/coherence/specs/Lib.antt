@@ -5,3 +5,4 @@ pub mod Rows
 pub mod Steps
 pub mod Laws
 pub mod Lines
+pub mod Entries

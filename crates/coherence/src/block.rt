@@ -1,5 +1,6 @@
 ghost use Rattle.coherence.specs.Laws.{StartIsCoherent, StepsKeepFacts, RunsAreCoherent, NothingIsStray, OneWriter};
 ghost use Rattle.coherence.specs.Lines.{LinesKeepOrder};
+ghost use Rattle.coherence.specs.Entries.{RowsAreBuilt};
 
 /// At the start the facts of a block hold.
 pub fn start_is_coherent()
@@ -30,4 +31,10 @@ pub fn one_writer()
 /// is taken from its front.
 pub fn lines_keep_order()
     ensures { LinesKeepOrder }
+{}
+
+/// The rows of the directory as it is built do what the rows over the full roll do, where a message is one that was
+/// asked for.
+pub fn rows_are_built()
+    ensures { RowsAreBuilt }
 {}
