@@ -134,7 +134,7 @@ may_put_s (Shared readers) node body bodies one w led is = let c = is.0 in omega
 may_put_s (Exclusive owner) node body bodies one w led is = absurd (let few = writers_few bodies in let c = is.1 in omega (arith, few, c, one, w, led))
 may_put_s (Busy from exclusive called) node body bodies one w led is = tt
 
-not_zero : (count : ℕ) → 1 ≤ count → (count == 0) ≡ false
+pub not_zero : (count : ℕ) → 1 ≤ count → (count == 0) ≡ false
 not_zero count some = elim (cases_Bool (count == 0)) [
   | inl is ↦ absurd (let e : count ≡ 0 = eqb-true count 0 is in omega (arith, some, e))
   | inr is ↦ is

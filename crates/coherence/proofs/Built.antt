@@ -1,15 +1,13 @@
 -- The rows of the directory as it is built do what the rows over the full roll do.
-use Rattle.std.proofs.Common.{◌≡◌, ◌⊎◌, inl, inr, ℕ, zero, suc, ◌+◌, ◌-◌, ◌<◌, ◌≤◌, ◌==◌, nat_lt, not, Bool, true, false, cond, if◌then◌else◌, List, [], ◌∷◌, ◌++◌, length, length-append, map, Option, Some, None, refl, ap, sym, ◌∙◌, subst, arith, eqb-true, append_assoc}
-use Rattle.std.specs.Prelude.{⊤, All, unwrap_or, take, drop}
+use Rattle.std.proofs.Common.{◌≡◌, inl, inr, ℕ, zero, suc, ◌+◌, ◌-◌, ◌<◌, ◌≤◌, ◌==◌, nat_lt, not, Bool, true, false, if◌then◌else◌, List, [], ◌∷◌, ◌++◌, length, length-append, map, Option, Some, None, refl, ap, sym, ◌∙◌, subst, arith, eqb-true, append_assoc}
+use Rattle.std.specs.Prelude.{⊤, All, unwrap_or}
 use Rattle.std.specs.List.{filter, range_with_len, remove}
 use Rattle.std.proofs.lemmas.List.{append-nil}
 use Rattle.std.proofs.lemmas.Bool.{cases_Bool}
 use Rattle.std.proofs.lemmas.Bool.Decides.{nat_tests}
-use Rattle.dir_list.specs.declared.readers.Readers.{Readers}
 use Rattle.dir_list.specs.declared.readers.Readers.TheVariants.{Listed, Counted}
-use Rattle.dir_list.specs.declared.readers.Removed.TheVariants.{Left, Empty, Absent}
 use Rattle.dir_list.specs.Lists.{first_place, taken_out}
-use Rattle.dir_list.specs.Known.{first_of, add_of, left_of, remove_of}
+use Rattle.dir_list.specs.Known.{first_of, left_of, remove_of}
 use Rattle.wt_proto.specs.declared.directory.DirState.{DirState}
 use Rattle.wt_proto.specs.declared.directory.DirState.TheVariants as entries
 use Rattle.wt_proto.specs.declared.directory.Request.{Request}
@@ -18,15 +16,14 @@ use Rattle.wt_proto.specs.declared.message.Body.{Body}
 use Rattle.wt_proto.specs.declared.message.Body.TheVariants.{GetS, GetX, PutS, PutX, DataS, DataX, Inv, InvAck, Wake, Arrive, Leave, Go}
 use Rattle.wt_proto.specs.declared.message.Outgoing.{Outgoing}
 use Rattle.trap_handler.specs.Trap.{targets_of, invalidation}
-use Rattle.dir1sw.specs.declared.home.DirAct.{DirAct}
-use Rattle.dir1sw.specs.declared.home.DirAct.TheVariants.{Done, Trap, Stray}
+use Rattle.dir1sw.specs.declared.home.DirAct.TheVariants.{Done, Stray}
 use Rattle.dir1sw.specs.declared.home.HomeBlock.{HomeBlock}
 use Rattle.dir1sw.specs.declared.home.Place.{Place}
 use Rattle.dir1sw.specs.Table as table
 use Rattle.coherence.specs.Block.{Roll, Home, count_of, without}
 use Rattle.coherence.specs.Block.Roll.{Idle, Shared, Exclusive, Busy}
 use Rattle.coherence.specs.Facts.{wakes_due}
-use Rattle.coherence.specs.Rows.{Row, to_one, to_called, with_roll, with_memory, with_waiting, quiet, stray_at, answer_of, call_back_of, take_over_of, serve_of, request_of, shared_by, put_s_of, put_x_of, with_wake, grant_of, awaiting_of, inv_ack_of, wake_of, arrive_of}
+use Rattle.coherence.specs.Rows.{Row, to_one, to_called, with_roll, quiet, stray_at, answer_of, call_back_of, take_over_of, serve_of, request_of, shared_by, put_s_of, put_x_of, with_wake, grant_of, awaiting_of, inv_ack_of, wake_of, arrive_of}
 use Rattle.coherence.specs.Entries.{entry_of, kept_of, called_by, all_sends, news_of, news_to, wake_in, wakes_in, is_stray, DoesAs, called_for, called_at, called_first, Answers, IsAwaited, RowsAreBuilt}
 
 abbrev home_by : Roll → List Request → List ℕ → Home
@@ -123,7 +120,7 @@ others_but_one node first (suc count) from below = elim (cases_Bool (first == no
   | inr is ↦ (let later : first + 1 ≤ node = grind (arith, nat_tests) in let more = others_but_one node (first + 1) count later (omega arith) in rw is (omega (arith, more)))
 ]
 
-pub count_others : (nodes node : ℕ) → node < nodes → length (targets_of nodes (AllBut node)) + 1 ≡ nodes
+count_others : (nodes node : ℕ) → node < nodes → length (targets_of nodes (AllBut node)) + 1 ≡ nodes
 unfolding others_from
 count_others nodes node below = others_but_one node 0 nodes (omega arith) (omega arith)
 
@@ -271,7 +268,7 @@ module _ (place : Place) where
     | inr some ↦ rw some (leaves_counted readers (without place.from readers) waiting memory (length_without place.from readers (grind (arith, nat_tests))))
   ]
 
-  puts_s : (listed : Bool) (roll : Roll) (waiting : List Request) (memory : List ℕ) → (put_s_of place.from (home_by roll waiting memory)).stray ≡ false →
+  pub puts_s : (listed : Bool) (roll : Roll) (waiting : List Request) (memory : List ℕ) → (put_s_of place.from (home_by roll waiting memory)).stray ≡ false →
       DoesAs place (put_s_of place.from (home_by roll waiting memory)) (table.put_s_of place.from (kept_of listed (home_by roll waiting memory)))
   puts_s listed Idle waiting memory asked = strays place listed (home_by Idle waiting memory)
   puts_s listed (Exclusive owner) waiting memory asked = strays place listed (home_by (Exclusive owner) waiting memory)

@@ -8,3 +8,4 @@ pub mod Steps
 pub mod Strays
 pub mod Lines
 pub mod Built
+pub mod Called

@@ -18,6 +18,10 @@ pub record Cell : Type 0 where
   pub to_home : List Body
   pub from_home : List Body
 
+-- a node that has nothing to do with it
+abbrev pub no_part : Cell
+no_part = record { wants = None; copy = None; to_home = []; from_home = [] }
+
 -- A copy that is held counts as the message that brought it.
 abbrev pub held : Option Copy → List Body
 held None = []

@@ -17,9 +17,12 @@ use Rattle.dir1sw.specs.declared.home.DirAct.TheVariants.{Trap, Stray}
 use Rattle.dir1sw.specs.declared.home.HomeBlock.{HomeBlock}
 use Rattle.dir1sw.specs.declared.home.Place.{Place}
 use Rattle.dir1sw.specs.Table as table
-use Rattle.coherence.specs.Block.{Roll, Home, count_of}
+use Rattle.coherence.specs.Block.{Roll, Home, View, count_of, no_part}
 use Rattle.coherence.specs.Block.Roll.{Idle, Shared, Exclusive, Busy}
+use Rattle.coherence.specs.Facts.{IsCoherent}
 use Rattle.coherence.specs.Rows.{Row, put_s_of, arrive_of, wake_of}
+use Rattle.coherence.specs.Steps.{Step, IsEnabled}
+use Rattle.coherence.specs.Steps.Step.{Arrive, Wake as WakeComes}
 
 -- the entry that keeps of a roll what the directory keeps, its readers listed or only counted
 abbrev pub entry_of : Bool → Roll → DirState
@@ -119,3 +122,24 @@ pub record RowsAreBuilt : Type 0 where
   pub wake : (place : Place) (listed : Bool) (home : Home) →
       All (λ (request : Request). request.node < place.nodes) home.waiting →
       DoesAs place (wake_of (called_first place (kept_of listed home)) home) (table.wake_of place (kept_of listed home))
+
+-- nodes past the last one have no part in the block
+abbrev pub IsOfNodes : ℕ → View → Type 0
+IsOfNodes nodes view = (node : ℕ) → nodes ≤ node → view.cell node ≡ no_part
+
+-- A row of the directory is a step of the block that may be done, and its message isn't stray.
+pub record IsStep (place : Place) (view : View) (step : Step) (row : Row) (built : table.Row) : Type 0 where
+  pub enabled : IsEnabled view step
+  pub does : DoesAs place row built
+  pub asked : is_stray built.act ≡ false
+
+-- What comes to the home of a coherent block is such a step.
+pub record RowsAreSteps : Type 0 where
+  pub arrive : (place : Place) (listed : Bool) (view : View) (body : Body) (rest : List Body) → IsCoherent view →
+      IsOfNodes place.nodes view → place.from < place.nodes → (view.cell place.from).to_home ≡ body ∷ rest →
+      IsStep place view (Arrive place.from body rest (called_at place body (kept_of listed view.home)))
+      (arrive_of place.from (called_at place body (kept_of listed view.home)) body view.home)
+      (table.arrive_of place body (kept_of listed view.home))
+  pub wake : (place : Place) (listed : Bool) (view : View) → IsCoherent view → IsOfNodes place.nodes view → 1 ≤ view.wakes →
+      IsStep place view (WakeComes (called_first place (kept_of listed view.home)))
+      (wake_of (called_first place (kept_of listed view.home)) view.home) (table.wake_of place (kept_of listed view.home))

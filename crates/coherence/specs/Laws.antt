@@ -3,7 +3,7 @@ use Rattle.std.specs.Prelude.{◌≡◌, ◌≢◌, ℕ, ◌≤◌, Bool, true, 
 use Rattle.wt_proto.specs.declared.message.Body.{Body}
 use Rattle.wt_proto.specs.declared.message.Body.TheVariants.{GetX}
 use Rattle.dir1sw.specs.Table.{grant_body}
-use Rattle.coherence.specs.Block.{View}
+use Rattle.coherence.specs.Block.{View, no_part}
 use Rattle.coherence.specs.Block.Roll.{Idle}
 use Rattle.coherence.specs.Facts.{IsCoherent}
 use Rattle.coherence.specs.Rows.{arrive_of, put_s_of, wake_of}
@@ -14,7 +14,7 @@ pub record IsStart (view : View) : Type 0 where
   pub roll : view.home.roll ≡ Idle
   pub waiting : view.home.waiting ≡ []
   pub wakes : view.wakes ≡ 0
-  pub cells : (node : ℕ) → view.cell node ≡ record { wants = None; copy = None; to_home = []; from_home = [] }
+  pub cells : (node : ℕ) → view.cell node ≡ no_part
 
 abbrev pub StartIsCoherent : Type 0
 StartIsCoherent = (view : View) → IsStart view → IsCoherent view

@@ -1,6 +1,6 @@
 ghost use Rattle.coherence.specs.Laws.{StartIsCoherent, StepsKeepFacts, RunsAreCoherent, NothingIsStray, OneWriter};
 ghost use Rattle.coherence.specs.Lines.{LinesKeepOrder};
-ghost use Rattle.coherence.specs.Entries.{RowsAreBuilt};
+ghost use Rattle.coherence.specs.Entries.{RowsAreBuilt, RowsAreSteps};
 
 /// At the start the facts of a block hold.
 pub fn start_is_coherent()
@@ -37,4 +37,9 @@ pub fn lines_keep_order()
 /// asked for.
 pub fn rows_are_built()
     ensures { RowsAreBuilt }
+{}
+
+/// What comes to the home of a coherent block is a step of it, by the directory as it is built, and isn't stray.
+pub fn rows_are_steps()
+    ensures { RowsAreSteps }
 {}

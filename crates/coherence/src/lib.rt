@@ -5,6 +5,6 @@
 mod block;
 
 pub use block::{
-    lines_keep_order, nothing_is_stray, one_writer, rows_are_built, runs_are_coherent,
-    start_is_coherent, steps_keep_facts,
+    lines_keep_order, nothing_is_stray, one_writer, rows_are_built, rows_are_steps,
+    runs_are_coherent, start_is_coherent, steps_keep_facts,
 };
