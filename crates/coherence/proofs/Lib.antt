@@ -9,3 +9,4 @@ pub mod Strays
 pub mod Lines
 pub mod Built
 pub mod Called
+pub mod Meetings

@@ -6,3 +6,4 @@ pub mod Steps
 pub mod Laws
 pub mod Lines
 pub mod Entries
+pub mod Meetings

@@ -1,6 +1,7 @@
 ghost use Rattle.coherence.specs.Laws.{StartIsCoherent, StepsKeepFacts, RunsAreCoherent, NothingIsStray, OneWriter};
 ghost use Rattle.coherence.specs.Lines.{LinesKeepOrder};
 ghost use Rattle.coherence.specs.Entries.{RowsAreBuilt, RowsAreSteps};
+ghost use Rattle.coherence.specs.Meetings.{MeetingsAreOrderly};
 
 /// At the start the facts of a block hold.
 pub fn start_is_coherent()
@@ -42,4 +43,9 @@ pub fn rows_are_built()
 /// What comes to the home of a coherent block is a step of it, by the directory as it is built, and isn't stray.
 pub fn rows_are_steps()
     ensures { RowsAreSteps }
+{}
+
+/// Whoever waits at the barrier or has left it is in one place, and no message about the barrier is stray.
+pub fn meetings_are_orderly()
+    ensures { MeetingsAreOrderly }
 {}
