@@ -10,3 +10,4 @@ pub mod Lines
 pub mod Built
 pub mod Called
 pub mod Meetings
+pub mod Values

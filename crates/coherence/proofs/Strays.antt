@@ -89,7 +89,7 @@ nothing_stray = record {
 
 -- ---- one writer
 
-sole : (roll : Roll) (node other : ℕ) (mine theirs : List Body) → (other == node) ≡ false → 1 ≤ writers mine → Counts roll node mine → Counts roll other theirs → tokens theirs ≡ 0
+pub sole : (roll : Roll) (node other : ℕ) (mine theirs : List Body) → (other == node) ≡ false → 1 ≤ writers mine → Counts roll node mine → Counts roll other theirs → tokens theirs ≡ 0
 sole Idle node other mine theirs differ some one two = two.0
 sole (Shared readers) node other mine theirs differ some one two = absurd (let w = one.1 in omega (arith, w, some))
 sole (Exclusive owner) node other mine theirs differ some one two = elim (cases_Bool (node == owner)) [

@@ -7,3 +7,4 @@ pub mod Laws
 pub mod Lines
 pub mod Entries
 pub mod Meetings
+pub mod Values

@@ -2,6 +2,7 @@ ghost use Rattle.coherence.specs.Laws.{StartIsCoherent, StepsKeepFacts, RunsAreC
 ghost use Rattle.coherence.specs.Lines.{LinesKeepOrder};
 ghost use Rattle.coherence.specs.Entries.{RowsAreBuilt, RowsAreSteps};
 ghost use Rattle.coherence.specs.Meetings.{MeetingsAreOrderly};
+ghost use Rattle.coherence.specs.Values.{ValuesAreKept};
 
 /// At the start the facts of a block hold.
 pub fn start_is_coherent()
@@ -48,4 +49,9 @@ pub fn rows_are_steps()
 /// Whoever waits at the barrier or has left it is in one place, and no message about the barrier is stray.
 pub fn meetings_are_orderly()
     ensures { MeetingsAreOrderly }
+{}
+
+/// Every copy has the value that the last store left, and so has the memory of the home where nobody may write.
+pub fn values_are_kept()
+    ensures { ValuesAreKept }
 {}

@@ -1,11 +1,11 @@
-//! Coherence of shared memory, block by block: whatever the order of events, no message is stray, and a copy that
-//! can be written is the only copy. It is proved of a machine of one block, whose home does what the directory does. The
-//! events of nodes and the messages under way in a world are not yet tied to it.
+//! Coherence of shared memory, block by block: whatever the order of events, no message is stray, a copy that can be
+//! written is the only copy, and each copy has what the last store left. It is proved of a machine of one block, whose
+//! home does what the directory does. The events of nodes and the messages under way in a world are not yet tied to it.
 #![tactic(auto)]
 
 mod block;
 
 pub use block::{
     lines_keep_order, meetings_are_orderly, nothing_is_stray, one_writer, rows_are_built,
-    rows_are_steps, runs_are_coherent, start_is_coherent, steps_keep_facts,
+    rows_are_steps, runs_are_coherent, start_is_coherent, steps_keep_facts, values_are_kept,
 };
