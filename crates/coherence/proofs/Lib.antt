@@ -11,3 +11,6 @@ pub mod Built
 pub mod Called
 pub mod Meetings
 pub mod Values
+pub mod Copies
+pub mod Deals
+pub mod StepDeals

@@ -8,3 +8,4 @@ pub mod Lines
 pub mod Entries
 pub mod Meetings
 pub mod Values
+pub mod Deals
