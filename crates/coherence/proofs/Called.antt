@@ -10,7 +10,6 @@ use Rattle.wt_proto.specs.declared.message.Body.{Body}
 use Rattle.wt_proto.specs.declared.message.Body.TheVariants.{GetS, GetX, PutS, PutX, DataS, DataX, Inv, InvAck, Wake, Arrive, Leave, Go}
 use Rattle.dir1sw.specs.declared.home.HomeBlock.{HomeBlock}
 use Rattle.dir1sw.specs.declared.home.Place.{Place}
-use Rattle.dir1sw.specs.Table as table
 use Rattle.coherence.specs.Pipes.{token_of, writer_of, not_to_home_of, tokens, asks}
 use Rattle.coherence.specs.Block.{Cell, wanted, pipe, no_part, Roll, View, count_of, without}
 use Rattle.coherence.specs.Block.Roll.{Idle, Shared, Exclusive, Busy}

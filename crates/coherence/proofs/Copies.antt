@@ -1,5 +1,5 @@
 -- A node's copy of a block after its cache has dropped, written or installed a line.
-use Rattle.std.proofs.Common.{◌≡◌, ◌≢◌, ℕ, suc, ◌≤◌, ◌<◌, Bool, true, false, List, [], ◌∷◌, ◌++◌, length, filter, Option, Some, None, refl, ap, sym, ◌∙◌, subst, inl, inr, arith, mod-lt, eqb}
+use Rattle.std.proofs.Common.{◌≡◌, ◌≢◌, ℕ, suc, ◌≤◌, Bool, true, false, List, [], ◌∷◌, length, filter, Option, Some, None, refl, ap, sym, ◌∙◌, subst, inl, inr, arith, mod-lt, eqb}
 use Rattle.std.specs.List.{find, All, slice_index_or}
 use Rattle.std.specs.Prelude.{if◌then◌else◌}
 use Rattle.std.proofs.lemmas.Bool.{cases_Bool, cases_eq, cases_lt, eqb-true, eq-eqb, ne_eqb}
@@ -11,7 +11,7 @@ use Rattle.target_cache.specs.Lines.{AreDistinct, holds, tag_by, written_line, w
 use Rattle.target_cache.specs.Cached.{Cached, IsCached, LineFits, set_of, lines_of, line_of, tag_of, write_of, written_by, replaced_of, install_of, drop_of}
 use Rattle.target_cache.proofs.LineLaws.{free_way_takes, free_way_replaces, full_set_takes, full_set_replaces, add_keeps_others}
 use Rattle.target_cache.proofs.CachedLaws.{same_set, other_set}
-use Rattle.target_cache.proofs.CacheLaws.{has_its_set, none_after_drop, others_after_drop, line_after_install}
+use Rattle.target_cache.proofs.CacheLaws.{has_its_set, none_after_drop, others_after_drop}
 use Rattle.coherence.specs.Block.{Copy}
 use Rattle.coherence.specs.Deals.{copy_by, copy_of}
 
@@ -135,23 +135,23 @@ lines_installed ways block line [] some distinct apart = rw (free_way_takes ways
 })
 lines_installed ways block line (first ∷ rest) some distinct apart = elim (cases_lt (length (first ∷ rest)) ways) [
   | inl free ↦ rw (free_way_takes ways line (first ∷ rest) free, free_way_replaces ways (first ∷ rest) free) (record {
-      kept = λ none. add_keeps_others block line (first ∷ rest) apart;
-      gone = λ old is same. absurd (let e : None ≡ Some old = is in cc);
-      other = λ old is differ. absurd (let e : None ≡ Some old = is in cc);
-    })
+    kept = λ none. add_keeps_others block line (first ∷ rest) apart;
+    gone = λ old is same. absurd (let e : None ≡ Some old = is in cc);
+    other = λ old is differ. absurd (let e : None ≡ Some old = is in cc);
+  })
   | inr full ↦ rw (full_set_takes ways line (first ∷ rest) full, full_set_replaces ways (first ∷ rest) full) (record {
-      kept = λ none. absurd (let e : Some first ≡ None = none in cc);
-      gone = λ old is same.
-          let e : Some first ≡ Some old = is in
-          let f : first ≡ old = cc in
-          let at : first.block ≡ block = ap (λ (l : Line). l.block) f ∙ same in
-          (rw (eq-eqb first.block block at) is, add_keeps_others block line rest apart ∙ ap (λ (b : ℕ). find (holds b) rest) (sym at) ∙ none_behind first rest distinct);
-      other = λ old is differ.
-          let e : Some first ≡ Some old = is in
-          let f : first ≡ old = cc in
-          let not_at : eqb first.block block ≡ false = ne_eqb first.block block (λ at. differ (ap (λ (l : Line). l.block) (sym f) ∙ at)) in
-          rw not_at (add_keeps_others block line rest apart);
-    })
+    kept = λ none. absurd (let e : Some first ≡ None = none in cc);
+    gone = λ old is same.
+        let e : Some first ≡ Some old = is in
+        let f : first ≡ old = cc in
+        let at : first.block ≡ block = ap (λ (l : Line). l.block) f ∙ same in
+        (rw (eq-eqb first.block block at) is, add_keeps_others block line rest apart ∙ ap (λ (b : ℕ). find (holds b) rest) (sym at) ∙ none_behind first rest distinct);
+    other = λ old is differ.
+        let e : Some first ≡ Some old = is in
+        let f : first ≡ old = cc in
+        let not_at : eqb first.block block ≡ false = ne_eqb first.block block (λ at. differ (ap (λ (l : Line). l.block) (sym f) ∙ at)) in
+        rw not_at (add_keeps_others block line rest apart);
+  })
 ]
 
 -- a replaced line was one of the set
@@ -186,3 +186,19 @@ other_installed cache line block is some ways apart = elim (cases_eq (set_of cac
         other = λ old is_old differ. refl;
       })
 ]
+
+-- The line of a block that has come replaces one of another block.
+differs_by : (ways block : ℕ) (lines : List Line) (old : Line) → 1 ≤ ways → find (holds block) lines ≡ None → replaced_in ways lines ≡ Some old → (old.block ≢ block)
+differs_by ways block [] old some none is same = let e : None ≡ Some old = sym (free_way_replaces ways [] (omega arith)) ∙ is in cc
+differs_by ways block (first ∷ rest) old some none is same = elim (cases_lt (length (first ∷ rest)) ways) [
+  | inl free ↦ let e : None ≡ Some old = sym (free_way_replaces ways (first ∷ rest) free) ∙ is in cc
+  | inr full ↦
+      let e : Some first ≡ Some old = sym (full_set_replaces ways (first ∷ rest) full) ∙ is in
+      let f : first ≡ old = cc in
+      let g : Some first ≡ None = rw (eq-eqb first.block block (ap (λ (l : Line). l.block) f ∙ same)) at none in
+      cc
+]
+
+pub replaced_differs : (cache : Cached) (line old : Line) → 1 ≤ cache.machine.ways → line_of cache line.block ≡ None → replaced_of line cache ≡ Some old → (old.block ≢ line.block)
+unfolding line_of replaced_of
+replaced_differs cache line old ways none is = differs_by cache.machine.ways line.block (lines_of cache line.block) old ways none is

@@ -14,3 +14,5 @@ pub mod Values
 pub mod Copies
 pub mod Deals
 pub mod StepDeals
+pub mod RowSends
+pub mod MessageDeals

@@ -1,7 +1,7 @@
 -- What a step of a processor does to a block is some deals.
-use Rattle.std.proofs.Common.{◌≡◌, ◌≢◌, ℕ, ◌+◌, ◌≤◌, Bool, true, false, cond, List, [], ◌∷◌, ◌++◌, map, Option, Some, None, Result, Ok, Err, refl, ap, sym, ◌∙◌, subst, inl, inr, arith, append-nil}
-use Rattle.std.specs.Prelude.{◌==◌, ◌&&◌, if◌then◌else◌}
-use Rattle.std.proofs.lemmas.Bool.{cases_Bool, cases_eq, eq-eqb, ne_eqb}
+use Rattle.std.proofs.Common.{◌≡◌, ◌≢◌, ℕ, ◌+◌, ◌≤◌, Bool, true, false, cond, List, [], ◌∷◌, ◌++◌, map, Option, Some, None, Result, Ok, Err, refl, ap, sym, ◌∙◌, subst, inl, inr, append-nil}
+use Rattle.std.specs.Prelude.{◌==◌, ◌&&◌}
+use Rattle.std.proofs.lemmas.Bool.{cases_eq, eq-eqb, ne_eqb}
 use Rattle.wt_params.specs.declared.parts.MachineParts.{MachineParts}
 use Rattle.wt_params.specs.Machine.{IsMachine, shared_block}
 use Rattle.rv_decode.specs.declared.instr.CicoOp.{CicoOp}
@@ -18,7 +18,6 @@ use Rattle.priv_mem.specs.Memory.{load_of, store_of}
 use Rattle.wt_proto.specs.declared.message.Body.{Body}
 use Rattle.wt_proto.specs.declared.message.Body.TheVariants.{GetS, GetX, PutS, PutX, Arrive, Leave}
 use Rattle.wt_proto.specs.declared.message.Msg.{Msg}
-use Rattle.wt_proto.specs.declared.message.Stamped.{Stamped}
 use Rattle.wt_proto.specs.declared.mode.Cause.TheVariants as causes
 use Rattle.wt_proto.specs.declared.mode.Mode.{Mode}
 use Rattle.wt_proto.specs.declared.mode.Mode.TheVariants.{Running, Waiting, InBarrier}
@@ -27,13 +26,13 @@ use Rattle.block_tags.specs.declared.tag.Tag.TheVariants.{Invalid, ReadOnly, Wri
 use Rattle.cico_ops.specs.Annotations.{action_of}
 use Rattle.target_cache.specs.declared.line.Line.{Line}
 use Rattle.target_cache.specs.Lines.{written_line, tag_by}
-use Rattle.target_cache.specs.Cached.{Cached, line_of, tag_of, read_of, write_of, drop_of}
+use Rattle.target_cache.specs.Cached.{Cached, line_of, tag_of, read_of, write_of}
 use Rattle.target_cache.proofs.CacheLaws.{line_is_of_block}
 use Rattle.node.specs.declared.state.NodeState.{NodeState}
 use Rattle.node.specs.declared.state.Send.{Send}
 use Rattle.node.specs.State.{register, in_mode, one_done, step_time, next_key}
 use Rattle.node.specs.Handled.{Handled, quiet, sending, stopped, gives_back, moved_on, message_to}
-use Rattle.node.specs.SharedAccess.{offset_of, missed, upgraded as upgraded_node, hit_load_by, shared_load_of, hit_store_by, shared_store_of, stored_value}
+use Rattle.node.specs.SharedAccess.{offset_of, missed, upgraded as upgraded_node, hit_load_by, shared_load_of, hit_store_by, shared_store_of}
 use Rattle.node.specs.PrivateAccess.{load_by, load_from, store_by, store_to}
 use Rattle.node.specs.Annotation.{annotated, checked_in, annotate_by, annotate_block, annotate_of}
 use Rattle.node.specs.Call.{barrier_call_of, exit_of, call_of}
@@ -41,9 +40,9 @@ use Rattle.node.specs.Processor.{fetch_of, meaning_in, effect_by, execute_of, st
 use Rattle.node.specs.React.{stamped_from, react_to_step, counted_step}
 use Rattle.node.specs.Sound.{CacheFits}
 use Rattle.node.proofs.Accesses.{some_sets, unread_absent}
-use Rattle.coherence.specs.Block.{Copy, Cell}
+use Rattle.coherence.specs.Block.{Copy}
 use Rattle.coherence.specs.Pipes.{not_to_home_of}
-use Rattle.coherence.specs.Deals.{wanted_in, copy_by, copy_of, cell_of, is_for_home, body_if, sent_home, said, Deal, MayDealAll, all_dealt, DealsWith, StepsDeal}
+use Rattle.coherence.specs.Deals.{wanted_in, copy_by, copy_of, cell_of, body_if, sent_home, said, all_dealt, DealsWith, StepsDeal}
 use Rattle.coherence.specs.Deals.Deal.{Asks, Upgrades, Gives, Writes}
 use Rattle.coherence.proofs.Cells.{part}
 use Rattle.coherence.proofs.Copies.{copy_none, copy_readonly, line_writable, copy_dropped, other_dropped, line_written, other_written}
@@ -72,13 +71,13 @@ pub same_part : (wants wants2 : Option Bool) (copy copy2 : Option Copy) (up up2 
 same_part wants wants2 copy copy2 up up2 down w c u =
     ap (λ (x : Option Bool). part x copy up down) w ∙ ap (λ (x : Option Copy). part wants2 x up down) c ∙ ap (λ (x : List Body). part wants2 copy2 x down) u
 
-waiting_here : (block : ℕ) (exclusive : Bool) → wanted_in block (Waiting block exclusive) ≡ Some exclusive
+pub waiting_here : (block : ℕ) (exclusive : Bool) → wanted_in block (Waiting block exclusive) ≡ Some exclusive
 waiting_here block exclusive = rw (eq-eqb block block refl) refl
 
-waiting_elsewhere : (block other : ℕ) (exclusive : Bool) → (other ≢ block) → wanted_in block (Waiting other exclusive) ≡ None
+pub waiting_elsewhere : (block other : ℕ) (exclusive : Bool) → (other ≢ block) → wanted_in block (Waiting other exclusive) ≡ None
 waiting_elsewhere block other exclusive apart = rw (ne_eqb other block apart) refl
 
-put_body_goes : (line : Line) → not_to_home_of (cond line.writable (PutX line.bytes) PutS) ≡ 0
+pub put_body_goes : (line : Line) → not_to_home_of (cond line.writable (PutX line.bytes) PutS) ≡ 0
 put_body_goes line = by line.writable
   where
     by : (writable : Bool) → not_to_home_of (cond writable (PutX line.bytes) PutS) ≡ 0
@@ -93,12 +92,13 @@ barrier_said block body other = by (0 == block)
     by true = rw other refl
     by false = refl
 
-pub record IsDealt (block : ℕ) (up down : List Body) (old : NodeState) (handled : Handled) : Type 0 where
-  pub deal : DealsWith (cell_of block up down old) (cell_of block (up ++ sent_home block (told handled.sends)) down handled.node)
+-- An event deals with a block, so that this is left of what is under way from its home.
+pub record IsDealt (block : ℕ) (up down rest : List Body) (old : NodeState) (handled : Handled) : Type 0 where
+  pub deal : DealsWith (cell_of block up down old) (cell_of block (up ++ sent_home block (told handled.sends)) rest handled.node)
 
 module _ (machine : MachineParts) (block time : ℕ) (up down : List Body) (old : NodeState) (is : IsMachine machine) (fits : CacheFits machine old.cache) (running : old.mode ≡ Running) where
   abbrev Dealt : Handled → Type 0
-  Dealt handled = IsDealt block up down old handled
+  Dealt handled = IsDealt block up down down old handled
 
   some : 1 ≤ old.cache.machine.sets
   some = some_sets machine old.cache is fits
@@ -108,11 +108,13 @@ module _ (machine : MachineParts) (block time : ℕ) (up down : List Body) (old 
 
   -- Nothing is done to the block.
   stays : (handled : Handled) → wanted_in block handled.node.mode ≡ None → copy_of handled.node.cache block ≡ copy_of old.cache block → sent_home block (told handled.sends) ≡ [] → Dealt handled
-  stays handled wants copy sends = record { deal = record {
-    deals = [];
-    may = tt;
-    is = same_part _ _ _ _ _ _ down (wants ∙ sym waits_not) copy (ap (λ (l : List Body). up ++ l) sends ∙ append-nil up);
-  } }
+  stays handled wants copy sends = record {
+    deal = record {
+      deals = [];
+      may = tt;
+      is = same_part _ _ _ _ _ _ down (wants ∙ sym waits_not) copy (ap (λ (l : List Body). up ++ l) sends ∙ append-nil up);
+    };
+  }
 
   goes_on : (handled : Handled) → handled.node.mode ≡ old.mode → handled.node.cache ≡ old.cache → handled.sends ≡ [] → Dealt handled
   goes_on handled mode cache sends =
@@ -124,11 +126,13 @@ module _ (machine : MachineParts) (block time : ℕ) (up down : List Body) (old 
   -- ---- misses and upgrades
 
   asks_here : (exclusive : Bool) → copy_of old.cache block ≡ None → Dealt (missed machine time block exclusive old)
-  asks_here exclusive absent = record { deal = record {
-    deals = Asks exclusive ∷ [];
-    may = ((waits_not, absent), tt);
-    is = by exclusive;
-  } }
+  asks_here exclusive absent = record {
+    deal = record {
+      deals = Asks exclusive ∷ [];
+      may = ((waits_not, absent), tt);
+      is = by exclusive;
+    };
+  }
     where
       by : (x : Bool) → cell_of block (up ++ sent_home block (told (missed machine time block x old).sends)) down (missed machine time block x old).node ≡ all_dealt (Asks x ∷ []) (cell_of block up down old)
       by true = same_part _ _ _ _ _ _ down (waiting_here block true) refl (ap (λ (l : List Body). up ++ l) (sent_here block (GetX false) refl))
@@ -142,11 +146,13 @@ module _ (machine : MachineParts) (block time : ℕ) (up down : List Body) (old 
   ]
 
   upgrades_here : (bytes : List ℕ) → copy_of old.cache block ≡ Some (record { writable = false; bytes = bytes }) → Dealt (upgraded_node machine time block old)
-  upgrades_here bytes held = record { deal = record {
-    deals = Upgrades bytes ∷ [];
-    may = ((waits_not, held), tt);
-    is = same_part _ _ _ _ _ _ down (waiting_here block true) (copy_dropped old.cache block fits.sound some) (ap (λ (l : List Body). up ++ l) (sent_here block (GetX true) refl));
-  } }
+  upgrades_here bytes held = record {
+    deal = record {
+      deals = Upgrades bytes ∷ [];
+      may = ((waits_not, held), tt);
+      is = same_part _ _ _ _ _ _ down (waiting_here block true) (copy_dropped old.cache block fits.sound some) (ap (λ (l : List Body). up ++ l) (sent_here block (GetX true) refl));
+    };
+  }
 
   upgrades : (target : ℕ) → tag_of old.cache target ≡ ReadOnly → Dealt (upgraded_node machine time target old)
   upgrades target held = elim (cases_eq target block) [
@@ -164,14 +170,16 @@ module _ (machine : MachineParts) (block time : ℕ) (up down : List Body) (old 
       let old_line = line.0 in
       let w = line.2 in
       let new = (written_line offset width value old_line).bytes in
-      record { deal = record {
-        deals = Writes old_line.bytes new ∷ [];
-        may = (ap copy_by line.1 ∙ ap (λ (x : Bool). let copy : Copy = record { writable = x; bytes = old_line.bytes } in Some copy) w, tt);
-        is = same_part _ _ _ _ _ _ down (ap (λ (m : Mode). wanted_in block m) mode)
-            (ap (λ (c : Cached). copy_of c block) cache ∙ ap copy_by (line_written old.cache block offset width value old_line fits.sound some line.1 w)
-            ∙ ap (λ (x : Bool). let copy : Copy = record { writable = x; bytes = new } in Some copy) w)
-            (ap (λ (l : List Send). up ++ sent_home block (told l)) sends ∙ append-nil up);
-      } }
+      record {
+        deal = record {
+          deals = Writes old_line.bytes new ∷ [];
+          may = (ap copy_by line.1 ∙ ap (λ (x : Bool). let copy : Copy = record { writable = x; bytes = old_line.bytes } in Some copy) w, tt);
+          is = same_part _ _ _ _ _ _ down (ap (λ (m : Mode). wanted_in block m) mode)
+              (ap (λ (c : Cached). copy_of c block) cache ∙ ap copy_by (line_written old.cache block offset width value old_line fits.sound some line.1 w)
+              ∙ ap (λ (x : Bool). let copy : Copy = record { writable = x; bytes = new } in Some copy) w)
+              (ap (λ (l : List Send). up ++ sent_home block (told l)) sends ∙ append-nil up);
+        };
+      }
 
   writes : (target offset width value : ℕ) (handled : Handled) → tag_of old.cache target ≡ Writable → handled.node.mode ≡ old.mode → handled.node.cache ≡ write_of target offset width value old.cache → handled.sends ≡ [] → Dealt handled
   writes target offset width value handled held mode cache sends = elim (cases_eq target block) [
@@ -227,15 +235,17 @@ module _ (machine : MachineParts) (block time : ℕ) (up down : List Body) (old 
   gives_here : (line : Line) → line_of old.cache block ≡ Some line → Dealt (checked_in machine time block old)
   gives_here line held =
       let of : line.block ≡ block = (line_is_of_block old.cache block line fits.sound some held).0 in
-      record { deal = record {
-        deals = Gives (record { writable = line.writable; bytes = line.bytes }) ∷ [];
-        may = (ap copy_by held, tt);
-        is = same_part _ _ _ _ _ _ down refl (copy_dropped old.cache block fits.sound some)
-            (ap (λ (l : List Body). up ++ l)
-            (ap (λ (l : Option Line). sent_home block (told (gives_back machine time l))) held
-            ∙ ap (λ (b : ℕ). sent_home block (record { block = b; body = cond line.writable (PutX line.bytes) PutS } ∷ [])) of
-            ∙ sent_here block (cond line.writable (PutX line.bytes) PutS) (put_body_goes line)));
-      } }
+      record {
+        deal = record {
+          deals = Gives (record { writable = line.writable; bytes = line.bytes }) ∷ [];
+          may = (ap copy_by held, tt);
+          is = same_part _ _ _ _ _ _ down refl (copy_dropped old.cache block fits.sound some)
+              (ap (λ (l : List Body). up ++ l)
+              (ap (λ (l : Option Line). sent_home block (told (gives_back machine time l))) held
+              ∙ ap (λ (b : ℕ). sent_home block (record { block = b; body = cond line.writable (PutX line.bytes) PutS } ∷ [])) of
+              ∙ sent_here block (cond line.writable (PutX line.bytes) PutS) (put_body_goes line)));
+        };
+      }
 
   gives : (target : ℕ) → (tag_of old.cache target ≢ Invalid) → Dealt (checked_in machine time target old)
   gives target present = elim (cases_eq target block) [

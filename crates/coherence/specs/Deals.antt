@@ -1,12 +1,13 @@
 -- What one event of a node does to one block at that node: to its copy, to what its processor waits for, and to the
 -- messages between it and the home. Own.
-use Rattle.std.specs.Prelude.{◌≡◌, ⊤, ℕ, ◌==◌, ◌&&◌, Bool, true, false, List, [], ◌∷◌, ◌++◌, map, option_map, Option, Some, None, if◌then◌else◌}
+use Rattle.std.specs.Prelude.{◌≡◌, ⊤, ℕ, ◌==◌, ◌&&◌, Bool, true, false, List, [], ◌∷◌, ◌++◌, length, map, option_map, IfSome, Option, Some, None, if◌then◌else◌}
 use Rattle.wt_params.specs.declared.parts.MachineParts.{MachineParts}
 use Rattle.wt_proto.specs.declared.key.Key.{Key}
 use Rattle.wt_proto.specs.declared.message.Body.{Body}
 use Rattle.wt_proto.specs.declared.message.Body.TheVariants.{DataS, DataX, Inv}
 use Rattle.wt_proto.specs.declared.message.Msg.{Msg}
 use Rattle.wt_proto.specs.declared.message.Stamped.{Stamped}
+use Rattle.wt_proto.specs.Messages.{data_of}
 use Rattle.wt_proto.specs.declared.mode.Mode.{Mode}
 use Rattle.wt_proto.specs.declared.mode.Mode.TheVariants.{Running, Waiting}
 use Rattle.dir1sw.specs.Table.{grant_body}
@@ -152,6 +153,7 @@ abbrev pub MessagesDeal : Type 0
 MessagesDeal =
     (machine : MachineParts) (node : NodeState) (key : Key) (msg : Msg) (block : ℕ) (to_home rest : List Body) →
     IsNode machine node → IsWantedIn node.mode msg →
+    IfSome (data_of msg.body) (λ bytes. length bytes ≡ machine.block_bytes) →
     DealsWith (cell_of block to_home (body_if (is_from_home block msg) msg ++ rest) node)
     (cell_of block (to_home ++ sent_home block (said (react_to_message machine node key msg).1)) rest
     (react_to_message machine node key msg).0)
