@@ -16,3 +16,4 @@ pub mod Deals
 pub mod StepDeals
 pub mod RowSends
 pub mod MessageDeals
+pub mod RowDeals

@@ -9,3 +9,4 @@ pub mod Entries
 pub mod Meetings
 pub mod Values
 pub mod Deals
+pub mod RowDeals

@@ -1,4 +1,5 @@
 ghost use Rattle.coherence.specs.Deals.{DealsAreSteps, StepsDeal, MessagesDeal};
+ghost use Rattle.coherence.specs.RowDeals.{RowsDeal};
 
 /// What a node does to a block by some deals is as many steps of that block.
 pub fn deals_are_steps()
@@ -13,4 +14,9 @@ pub fn steps_deal()
 /// So does a message.
 pub fn messages_deal()
     ensures { MessagesDeal }
+{}
+
+/// A message to the home of its block does what the row of the directory's tables says.
+pub fn rows_deal()
+    ensures { RowsDeal }
 {}
