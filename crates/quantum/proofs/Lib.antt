@@ -9,3 +9,4 @@ pub mod Accepted
 pub mod SoleLemmas
 pub mod AtStart
 pub mod Tails
+pub mod Due

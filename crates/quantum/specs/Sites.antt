@@ -8,7 +8,7 @@ use Rattle.wt_proto.specs.declared.message.Stamped.{Stamped}
 use Rattle.wt_proto.specs.Messages.{key_of}
 use Rattle.event_queue.specs.Rising.{IsRising, peek_of}
 use Rattle.discrete_events.specs.Simulation.{Event, Step, Arrival, Message}
-use Rattle.discrete_events.specs.World.{events_below, least}
+use Rattle.discrete_events.specs.World.{events_below, is_spent, least}
 use Rattle.discrete_events.specs.Serial.{placed, taken}
 use Rattle.node.specs.Laws.{arrivals_of, AreNumbered}
 use Rattle.node.specs.React.{react, message_under_key, wind_tunnel}
@@ -30,6 +30,22 @@ first_time_of queue = option_map (λ (key : Key). key.time) (peek_of queue)
 
 abbrev pub least_time_at : Site → Option ℕ
 least_time_at site = least_time_of (run_up_to 0 site)
+
+-- whether a time that there may be is before another
+abbrev pub comes_before_of : Option ℕ → ℕ → Bool
+comes_before_of None until = false
+comes_before_of (Some time) until = nat_lt time until
+
+-- the earlier of a time that there may be and another
+abbrev pub earlier_of : Option ℕ → ℕ → ℕ
+earlier_of None time = time
+earlier_of (Some due) time = if nat_lt time due then time else due
+
+-- the time of the least event with one more message, by that without it
+abbrev pub least_with_of : Site → Option ℕ → ℕ → Option ℕ
+least_with_of site due time =
+    if is_spent (wind_tunnel site.node.machine) site.node.state then due
+    else if nat_lt time site.node.machine.budget then Some (earlier_of due time) else due
 
 -- the least of the node's own events below a time
 abbrev pub least_below : ℕ → Site → Option (Key × Event Msg)

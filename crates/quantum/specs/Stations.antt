@@ -68,9 +68,14 @@ pub record IsLive (station : StationModel) : Type 0 where
   pub own : (key : Key) (msg : Msg) → get station.pending key ≡ Some msg → key.to ≡ station.node.state.number
   pub ran : IsPast station.until station.node.state.last
 
--- so is its queue a rising one
-abbrev pub IsSoundStation : List Stamped → StationModel → Type 0
-IsSoundStation queue station = IsUnbroken station → IsRising queue × IsLive station
+-- what it keeps with that: its queue is a rising one, and the time at hand is that of its least event
+pub record IsKept (queue : List Stamped) (due : Option ℕ) (station : StationModel) : Type 0 where
+  pub rising : IsRising queue
+  pub live : IsLive station
+  pub due_is : due ≡ least_time_of station
+
+abbrev pub IsSoundStation : List Stamped → Option ℕ → StationModel → Type 0
+IsSoundStation queue due station = IsUnbroken station → IsKept queue due station
 
 -- A message that a station may be given: one of the machine, for its node and from another, not before the time that it
 -- ran up to, and with a key that no other has.

@@ -1,10 +1,10 @@
-ghost use Rattle.std.specs.Prelude.{◌≡◌, ℕ, ◌<◌, ◌≤◌, ◌+◌, [], false, length, take, drop, IfOk, OnOk, Some};
+ghost use Rattle.std.specs.Prelude.{◌≡◌, ℕ, ◌<◌, ◌≤◌, ◌+◌, [], false, length, take, drop, IfOk, OnOk, None, Some};
 ghost use Rattle.event_queue.specs.Rising.{IsRising};
 ghost use Rattle.image_loader.specs.Images.{IsFor};
 ghost use Rattle.node.specs.Start.{start_node};
 ghost use Rattle.quantum.specs.Sole.{HasEnded, IsSole};
 ghost use Rattle.quantum.specs.FreeRuns.{AddsOuts, run_to_of};
-ghost use Rattle.quantum.specs.Sites.{IsLookedAt, IsSite, IsTurn, Handles, HandsOut, MayHandOut, before_of, first_time_of, is_message_of, least_time_at, run_up_to};
+ghost use Rattle.quantum.specs.Sites.{IsLookedAt, IsSite, IsTurn, Handles, HandsOut, MayHandOut, before_of, comes_before_of, earlier_of, first_time_of, is_message_of, least_time_at, least_with_of, run_up_to};
 ghost use Rattle.quantum.specs.Stations.{station_of};
 
 use crate::counted_queue::CountedQueue;
@@ -67,18 +67,31 @@ impl Site {
         first.map(|key| key.time)
     }
 
-    /// The time of the least event.
-    pub fn least<L: Ledger>(&self, steps: &mut Steps<L>) -> Option<u64>
-        ensures value { (past : ℕ) → IsSite past self.now → result ≡ least_time_at self.now }
-        ensures step { steps.new ≡ steps.old + 1 }
+    /// The time of the least event, where `first` is the time of the first message.
+    pub fn least(&self, first: Option<u64>) -> Option<u64>
+        requires first { first ≡ first_time_of self.now.queue }
+        requires rising { IsRising self.now.queue }
+        ensures { (past : ℕ) → IsSite past self.now → result ≡ least_time_at self.now }
     {
         let budget = self.node.machine().budget();
-        let first = self.first_time(steps);
         match self.turn(first, budget) {
             None => None,
             Some(Turn::Step) => self.node.next_step(),
             Some(Turn::Message) => first,
         }
+    }
+
+    /// The time of the least event with one more message, where `due` is that without it.
+    pub fn least_with(&self, due: Option<u64>, time: u64) -> Option<u64>
+        ensures { result ≡ least_with_of self.now due time }
+    {
+        if self.node.spent() {
+            return due;
+        }
+        if time < self.node.machine().budget() {
+            return Some(earlier(due, time));
+        }
+        due
     }
 
     /// The node's next event before a time, where `first` is the time of its first message.
@@ -207,20 +220,22 @@ impl Site {
         Ok(own)
     }
 
-    /// Handles exactly the node's events before a time. The messages to other nodes are put at the end of a list. The
-    /// queue is looked at when the run begins, after each message, and after each event that sends to the node itself.
+    /// Handles exactly the node's events before a time, and answers the time of the first message that is left. The
+    /// messages to other nodes are put at the end of a list. The queue is looked at when the run begins, after each
+    /// message, and after each event that sends to the node itself.
     pub fn run_to<L: Ledger>(
         &mut self,
         until: u64,
         outs: &mut StampedList,
         steps: &mut Steps<L>,
-    ) -> Result<(), NoMemory>
+    ) -> Result<Option<u64>, NoMemory>
         requires budget { until ≤ self.old.node.machine.budget }
         requires site { IsSite until self.old }
         ensures ran { (past : ℕ) → OnOk result (station_of (run_up_to until self.new) ≡ (run_to_of until (run_up_to past self.old)).0) }
         ensures outs { (past : ℕ) → OnOk result (AddsOuts until (run_up_to past self.old) (run_up_to until self.new) outs.old outs.new steps.old steps.new) }
         ensures site { OnOk result (IsSite until self.new) }
         ensures rising { OnOk result (IsRising self.new.queue) }
+        ensures first { IfOk result (λ first. first ≡ first_time_of self.new.queue) }
         ensures machine { self.new.node.machine ≡ self.old.node.machine }
     {
         let mut first = self.first_time(steps);
@@ -232,7 +247,7 @@ impl Site {
                 first = self.first_time(steps);
             }
         }
-        Ok(())
+        Ok(first)
     }
 
     /// Handles all events of a node that is alone in its machine, and counts the quanta that they begin. Nothing is
@@ -248,6 +263,7 @@ impl Site {
         ensures ended { OnOk result (HasEnded (run_up_to quanta.old.kept_end self.old) (run_up_to quanta.new.kept_end self.new) quanta.old quanta.new) }
         ensures site { OnOk result (IsSite quanta.new.kept_end self.new) }
         ensures rising { OnOk result (IsRising self.new.queue) }
+        ensures none_left { OnOk result (least_time_at self.new ≡ None) }
         ensures machine { self.new.node.machine ≡ self.old.node.machine }
     {
         let budget = self.node.machine().budget();
@@ -274,6 +290,26 @@ impl Turn {
             Turn::Step => false,
             Turn::Message => true,
         }
+    }
+}
+
+/// Whether a time that there may be is before another.
+pub fn comes_before(time: Option<u64>, until: u64) -> bool
+    ensures { result ≡ comes_before_of time until }
+{
+    match time {
+        None => false,
+        Some(time) => time < until,
+    }
+}
+
+/// The earlier of a time that there may be and another.
+fn earlier(due: Option<u64>, time: u64) -> u64
+    ensures { result ≡ earlier_of due time }
+{
+    match due {
+        None => time,
+        Some(due) => if time < due { time } else { due },
     }
 }
 

@@ -6,7 +6,7 @@ ghost use Rattle.quantum.specs.FreeRuns.{AddsOuts, IsFree, IsHandedOut, run_to_o
 ghost use Rattle.quantum.specs.Stations.{HasNoPast, IsLive, IsUnbroken, MayAccept, accept_of, least_time_of, machine_of, station_at_start, station_of};
 
 use crate::quanta::Quanta;
-use crate::site::Site;
+use crate::site::{Site, comes_before};
 use event_queue::Steps;
 use image_loader::Loaded;
 use node::Node;
@@ -27,6 +27,8 @@ pub struct Station {
     site: Site,
     /// The time that it last ran up to.
     until: u64,
+    /// The time of the node's least event, where it has one.
+    due: Option<u64>,
     broken: bool,
 }
 
@@ -46,7 +48,7 @@ impl Model for Station {
       broken = station.broken;
     } };
 
-    ghost invariant = { λ station. IsSoundStation station.site.queue (record {
+    ghost invariant = { λ station. IsSoundStation station.site.queue station.due (record {
       node = station.site.node;
       pending = pending_of station.site.queue;
       until = station.until;
@@ -71,10 +73,12 @@ impl Station {
         ensures live { IfOk result IsLive }
     {
         let site = Site::new(alloc, machine, number, loaded, traced)?;
+        let due = site.least(None);
         Ok(Station {
             alloc,
             site,
             until: 0,
+            due,
             broken: false,
         })
     }
@@ -95,12 +99,12 @@ impl Station {
         self.site.queue.len()
     }
 
-    /// The time of the node's least event. None exactly where it has none.
+    /// The time of the node's least event. None exactly where it has none. It is at hand, so no queue is looked at.
     pub fn least<L: Ledger>(&self, steps: &mut Steps<L>) -> Option<u64>
         ensures value { IsUnbroken self.now → result ≡ least_time_of self.now }
         ensures step { steps.new ≤ steps.old + 1 }
     {
-        self.site.least(steps)
+        self.due
     }
 
     /// Handles exactly the node's events before a time, in rising order, its own messages among them, and stops where it
@@ -138,8 +142,32 @@ impl Station {
         if self.broken {
             return Err(NoMemory);
         }
+        if comes_before(self.due, until) {
+            return self.run_on(until, outs, steps);
+        }
+        self.until = until;
+        Ok(())
+    }
+
+    /// The same, where an event is due.
+    fn run_on<L: Ledger>(
+        &mut self,
+        until: u64,
+        outs: &mut Outs,
+        steps: &mut Steps<L>,
+    ) -> Result<(), NoMemory>
+        requires budget { until ≤ (machine_of self.old).budget }
+        requires forward { self.old.until ≤ until }
+        requires unbroken { IsUnbroken self.old }
+        ensures ran { OnOk result (station_of self.new ≡ (run_to_of until self.old).0) }
+        ensures outs { OnOk result (AddsOuts until self.old self.new outs.old outs.new steps.old steps.new) }
+        ensures live { OnOk result (IsUnbroken self.new × IsLive self.new) }
+        ensures machine { machine_of self.new ≡ machine_of self.old }
+        ensures broken { OnErr result (self.new.broken ≡ true) }
+    {
         match self.site.run_to(until, outs, steps) {
-            Ok(()) => {
+            Ok(first) => {
+                self.due = self.site.least(first);
                 self.until = until;
                 Ok(())
             }
@@ -170,6 +198,7 @@ impl Station {
         match self.site.run_sole(self.alloc, &mut quanta, steps) {
             Ok(()) => {
                 self.until = quanta.kept_end;
+                self.due = None;
                 Ok(quanta)
             }
             Err(NoMemory) => {
@@ -218,6 +247,13 @@ impl Station {
         if self.broken {
             return Err(message);
         }
-        self.site.queue.insert_letter(message, steps)
+        let time = message.message().time;
+        match self.site.queue.insert_letter(message, steps) {
+            Ok(()) => {
+                self.due = self.site.least_with(self.due, time);
+                Ok(())
+            }
+            Err(back) => Err(back),
+        }
     }
 }

@@ -4,6 +4,7 @@ use Rattle.quantum.specs.Sole.{quanta_after}
 use Rattle.quantum.specs.Sites.{is_message_of, least_below}
 use Rattle.quantum.proofs.Free.{ATurn}
 use Rattle.quantum.proofs.SoleLemmas.{alone_begins, alone_ended, alone_within, due_in_budget, few_so_far, turn_hands_out_alone, turn_is_early, turn_goes_on, turn_is_more_alone, turn_first_stays}
+use Rattle.quantum.proofs.Turns.{no_least_time}
 use Rattle.quantum.proofs.Tails.{from_within, handled_alone}
 use Rattle.quantum.proofs.site.Site.run_sole.Goals as goal
 
@@ -207,3 +208,7 @@ pub returns-clause-ended : goal.returns-clause-ended
 returns-clause-ended g c =
     alone_ended c.args.self.now c.loop-turn.self c.loop-turn.first [] c.args.quanta.now c.loop-turn.quanta c.loop-turn.invariant
     (subst (λ (n : ℕ). least_below n c.loop-turn.self ≡ None) (c.budget-budget.ensures.value ∙ ap (λ (m : MachineParts). m.budget) c.machine.ensures) (c.in_default.ensures c.loop-turn.quanta.kept_end c.loop-turn.invariant.site))
+
+pub returns-clause-none_left : goal.returns-clause-none_left
+returns-clause-none_left g c =
+    sym (no_least_time c.loop-turn.self c.budget-budget.result c.loop-turn.quanta.kept_end (c.budget-budget.ensures.value ∙ ap (λ (m : MachineParts). m.budget) (c.machine.ensures ∙ sym c.loop-turn.invariant.machine)) c.loop-turn.invariant.site (c.in_default.ensures c.loop-turn.quanta.kept_end c.loop-turn.invariant.site))

@@ -1,18 +1,31 @@
-use Rattle.std.proofs.Common.{◌≡◌, subst}
+use Rattle.std.proofs.Common.{◌≡◌, ◌≤◌, sym, ap, ◌∙◌, subst}
 use Rattle.quantum.specs.FreeRuns.{AddsOuts, run_to_of}
 use Rattle.quantum.specs.Sites.{run_up_to}
-use Rattle.quantum.specs.Stations.{station_of}
+use Rattle.quantum.specs.Stations.{StationModel, machine_of, station_of}
+use Rattle.quantum.proofs.Accepted.{live_site}
+use Rattle.quantum.proofs.Due.{idle_ran, idle_adds}
 use Rattle.quantum.proofs.station.Station.run_into.Goals as goal
 
-pub returns-in-Ok-clause-ran : goal.returns-in-Ok-clause-ran
-returns-in-Ok-clause-ran g c =
-    subst (λ s. station_of (run_up_to c.args.until c.run_to.new.self) ≡ (run_to_of c.args.until s).0) c.self.view_is (c.in-Ok.ensures.ran c.self.inside.until)
+pub returns-clause-ran : goal.returns-clause-ran
+returns-clause-ran g c =
+    let inside = c.self.inside in
+    let kept = c.self.invariant c.if-self.false in
+    subst (λ s. station_of (run_up_to c.args.until inside.site) ≡ (run_to_of c.args.until s).0) c.self.view_is
+    (idle_ran c.args.until inside.until inside.site inside.due (live_site inside.until inside.site inside.broken kept.live)
+        (subst (λ (s : StationModel). s.until ≤ c.args.until) (sym c.self.view_is) c.requires.forward)
+        (subst (λ (s : StationModel). c.args.until ≤ (machine_of s).budget) (sym c.self.view_is) c.requires.budget)
+        kept.rising kept.due_is (sym c.comes_before.ensures ∙ c.if-comes_before.false))
 
-pub returns-in-Ok-clause-outs : goal.returns-in-Ok-clause-outs
-returns-in-Ok-clause-outs g c =
+pub returns-clause-outs : goal.returns-clause-outs
+returns-clause-outs g c =
+    let inside = c.self.inside in
+    let kept = c.self.invariant c.if-self.false in
     let adds =
-    subst (λ s. AddsOuts c.args.until s (run_up_to c.args.until c.run_to.new.self) c.args.outs.now c.run_to.new.outs c.args.steps.now c.run_to.new.steps) c.self.view_is
-    (let a = c.in-Ok.ensures.outs c.self.inside.until in
+    subst (λ s. AddsOuts c.args.until s (run_up_to c.args.until inside.site) c.args.outs.now c.args.outs.now c.args.steps.now c.args.steps.now) c.self.view_is
+    (let a = idle_adds c.args.until inside.until inside.site inside.due (live_site inside.until inside.site inside.broken kept.live)
+        (subst (λ (s : StationModel). s.until ≤ c.args.until) (sym c.self.view_is) c.requires.forward)
+        (subst (λ (s : StationModel). c.args.until ≤ (machine_of s).budget) (sym c.self.view_is) c.requires.budget)
+        kept.rising kept.due_is (sym c.comes_before.ensures ∙ c.if-comes_before.false) c.args.outs.now c.args.steps.now in
     record { outs = a.outs; added = a.added; handed = record { exactly = a.handed.exactly; numbered = a.handed.numbered; grown = a.handed.grown; counted = a.handed.counted }; free = a.free }) in
     record {
       outs = adds.outs;
