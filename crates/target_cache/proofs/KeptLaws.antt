@@ -54,6 +54,11 @@ pub held_room : (machine : MachineParts) (tags : List Tag) (sets : List LinesInR
 held_room machine tags sets block place held r =
     subst (λ (s : LinesInRoom). machine.ways ≤ s.room) (sym r.value) (r.kept.room place held r.there)
 
+pub held_size : (machine : MachineParts) (tags : List Tag) (sets : List LinesInRoom) (block place : ℕ) (held : LinesInRoom) →
+    Reached machine tags sets block place held → held.size ≡ machine.block_bytes
+held_size machine tags sets block place held r =
+    subst (λ (s : LinesInRoom). s.size ≡ machine.block_bytes) (sym r.value) (r.kept.size place held r.there)
+
 -- the cache that what is kept stands for after other lines were put into the set
 pub put : (machine : MachineParts) (tags : List Tag) (sets : List LinesInRoom) (block place : ℕ) (held new : LinesInRoom) →
     Reached machine tags sets block place held → cached machine (set sets place new) ≡ with_lines block new.lines (cached machine sets)
@@ -62,12 +67,13 @@ put machine tags sets block place held new r =
 
 -- what is kept is sound after that, where the lines and the tags are
 pub kept_put : (machine : MachineParts) (tags after : List Tag) (sets : List LinesInRoom) (block place : ℕ) (held new : LinesInRoom) →
-    Reached machine tags sets block place held → new.room ≡ held.room → AreLines machine (set_of machine block) new.lines →
+    Reached machine tags sets block place held → new.room ≡ held.room → new.size ≡ held.size → AreLines machine (set_of machine block) new.lines →
     AreTags (with_lines block new.lines (cached machine sets)) after → IsKept machine after (set sets place new)
-kept_put machine tags after sets block place held new r room are tagged =
+kept_put machine tags after sets block place held new r room size are tagged =
     let is = put machine tags sets block place held new r in
     record {
       room = All-set (λ (s : LinesInRoom). machine.ways ≤ s.room) sets place new (let h = held_room machine tags sets block place held r in omega arith) r.kept.room;
+      size = All-set (λ (s : LinesInRoom). s.size ≡ machine.block_bytes) sets place new (size ∙ held_size machine tags sets block place held r) r.kept.size;
       tagged = subst (λ (c : Cached). AreTags c after) (sym is) tagged;
       sound = subst (λ (c : Cached). IsCached c) (sym is)
           (still_cached (cached machine sets) block new.lines (found_set machine tags sets block place held r) r.kept.sound are);
@@ -75,10 +81,10 @@ kept_put machine tags after sets block place held new r room are tagged =
 
 -- a write
 pub kept_written : (machine : MachineParts) (tags : List Tag) (sets : List LinesInRoom) (block place : ℕ) (held new : LinesInRoom) (offset width value : ℕ) →
-    Reached machine tags sets block place held → offset + width ≤ machine.block_bytes → new.room ≡ held.room →
+    Reached machine tags sets block place held → offset + width ≤ machine.block_bytes → new.room ≡ held.room → new.size ≡ held.size →
     new.lines ≡ with_written block offset width value held.lines → IsKept machine tags (set sets place new)
-kept_written machine tags sets block place held new offset width value r inside room lines =
-    kept_put machine tags tags sets block place held new r room
+kept_written machine tags sets block place held new offset width value r inside room size lines =
+    kept_put machine tags tags sets block place held new r room size
     (rw lines (lines-written machine (set_of machine block) block offset width value held.lines inside (held_are machine tags sets block place held r)))
     (subst (λ (l : List Line). AreTags (with_lines block l (cached machine sets)) tags)
     (ap (λ (l : List Line). with_written block offset width value l) (sym (held_lines machine tags sets block place held r)) ∙ sym lines)
@@ -104,10 +110,10 @@ not_written cache block offset width value tag = by_tag (tag_of cache block) tag
 
 -- a drop
 pub kept_dropped : (machine : MachineParts) (tags : List Tag) (sets : List LinesInRoom) (block place : ℕ) (held new : LinesInRoom) →
-    Reached machine tags sets block place held → block < machine.blocks → new.room ≡ held.room →
+    Reached machine tags sets block place held → block < machine.blocks → new.room ≡ held.room → new.size ≡ held.size →
     new.lines ≡ without block held.lines → IsKept machine (set tags block Invalid) (set sets place new)
-kept_dropped machine tags sets block place held new r exists room lines =
-    kept_put machine tags (set tags block Invalid) sets block place held new r room
+kept_dropped machine tags sets block place held new r exists room size lines =
+    kept_put machine tags (set tags block Invalid) sets block place held new r room size
     (rw lines (lines-without machine (set_of machine block) block held.lines (held_are machine tags sets block place held r)))
     (subst (λ (l : List Line). AreTags (with_lines block l (cached machine sets)) (set tags block Invalid))
     (ap (λ (l : List Line). without block l) (sym (held_lines machine tags sets block place held r)) ∙ sym lines)
@@ -204,11 +210,11 @@ installed_tags machine tags sets line place held (first ∷ rest) r exists some 
 
 pub kept_installed : (machine : MachineParts) (tags : List Tag) (sets : List LinesInRoom) (line : Line) (place : ℕ) (held new : LinesInRoom) →
     Reached machine tags sets line.block place held → line.block < machine.blocks → length line.bytes ≡ machine.block_bytes → 1 ≤ machine.ways →
-    find (holds line.block) held.lines ≡ None → new.room ≡ held.room → new.lines ≡ with_installed machine.ways line held.lines →
+    find (holds line.block) held.lines ≡ None → new.room ≡ held.room → new.size ≡ held.size → new.lines ≡ with_installed machine.ways line held.lines →
     IsKept machine (set (untagged (replaced_in machine.ways held.lines) tags) line.block (tag_by (Some line))) (set sets place new)
-kept_installed machine tags sets line place held new r exists size some none room lines =
-    kept_put machine tags (set (untagged (replaced_in machine.ways held.lines) tags) line.block (tag_by (Some line))) sets line.block place held new r room
-    (rw lines (lines-installed machine (set_of machine line.block) line held.lines (record { exists = exists; here = refl; size = size }) some none
+kept_installed machine tags sets line place held new r exists long some none room size lines =
+    kept_put machine tags (set (untagged (replaced_in machine.ways held.lines) tags) line.block (tag_by (Some line))) sets line.block place held new r room size
+    (rw lines (lines-installed machine (set_of machine line.block) line held.lines (record { exists = exists; here = refl; size = long }) some none
     (held_are machine tags sets line.block place held r)))
     (subst (λ (l : List Line). AreTags (with_lines line.block l (cached machine sets)) (set (untagged (replaced_in machine.ways held.lines) tags) line.block (tag_by (Some line)))) (sym lines)
     (installed_tags machine tags sets line place held held.lines r exists some refl none))
@@ -236,16 +242,17 @@ replaced_exists machine number (first ∷ rest) old are some is = elim (cases_lt
 ]
 
 -- at the start
-pub kept_empty : (machine : MachineParts) (room : ℕ) → 1 ≤ machine.sets → machine.ways ≤ room →
-    IsKept machine (replicate machine.blocks Invalid) (replicate machine.sets (record { lines = []; room = room }))
+pub kept_empty : (machine : MachineParts) (room size : ℕ) → 1 ≤ machine.sets → machine.ways ≤ room → size ≡ machine.block_bytes →
+    IsKept machine (replicate machine.blocks Invalid) (replicate machine.sets (record { lines = []; room = room; size = size }))
 unfolding line_of
-kept_empty machine room some fits =
-    let none : LinesInRoom = record { lines = []; room = room } in
+kept_empty machine room size some fits long =
+    let none : LinesInRoom = record { lines = []; room = room; size = size } in
     let lines : (number : ℕ) → number < machine.sets → get_or (map (λ (s : LinesInRoom). s.lines) (replicate machine.sets none)) number [] ≡ [] =
     λ number below. get_or-map (λ (s : LinesInRoom). s.lines) (replicate machine.sets none) number none [] (omega (arith, length-replicate machine.sets none))
     ∙ ap (λ (s : LinesInRoom). s.lines) (get_or-replicate machine.sets number none none below) in
     record {
       room = All-replicate (λ (s : LinesInRoom). machine.ways ≤ s.room) machine.sets none fits;
+      size = All-replicate (λ (s : LinesInRoom). s.size ≡ machine.block_bytes) machine.sets none long;
       tagged = record {
         count = length-replicate machine.blocks Invalid;
         each = λ block exists. get_or-replicate machine.blocks block Invalid Invalid exists
@@ -261,7 +268,8 @@ map-replicate : {A B : Type 0} (f : A → B) (n : ℕ) (a : A) → map f (replic
 map-replicate f zero a = refl
 map-replicate f (suc n) a = ap (λ l. f a ∷ l) (map-replicate f n a)
 
-pub empty_is : (machine : MachineParts) (room : ℕ) → cached machine (replicate machine.sets (record { lines = []; room = room })) ≡ empty_cache machine
+pub empty_is : (machine : MachineParts) (room size : ℕ) →
+    cached machine (replicate machine.sets (record { lines = []; room = room; size = size })) ≡ empty_cache machine
 unfolding empty_cache
-empty_is machine room =
-    ap (λ (l : List (List Line)). let c : Cached = record { machine = machine; sets = l } in c) (map-replicate (λ (s : LinesInRoom). s.lines) machine.sets (record { lines = []; room = room }))
+empty_is machine room size =
+    ap (λ (l : List (List Line)). let c : Cached = record { machine = machine; sets = l } in c) (map-replicate (λ (s : LinesInRoom). s.lines) machine.sets (record { lines = []; room = room; size = size }))

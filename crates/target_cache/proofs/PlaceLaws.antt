@@ -1,6 +1,7 @@
 -- What stands at the first place of a list whose element passes a test, where at most one element passes it.
-use Rattle.std.proofs.Common.{◌≡◌, ℕ, suc, ◌+◌, ◌<◌, ◌≤◌, Bool, true, not, cond, List, [], ◌∷◌, length, map, filter, get_or, set, Some, None, refl, ap, sym, ◌∙◌, subst, inl, inr, arith, ltb}
-use Rattle.std.specs.List.{find, position, position_or_len, remove}
+use Rattle.std.proofs.Common.{◌≡◌, ℕ, suc, ◌+◌, ◌<◌, ◌≤◌, Bool, true, not, cond, List, [], ◌∷◌, length, map, filter, get_or, set, Option, Some, None, refl, ap, sym, ◌∙◌, subst, inl, inr, arith, ltb}
+use Rattle.std.specs.Prelude.{IfSome}
+use Rattle.std.specs.List.{find, slice_get, position, position_or_len, remove}
 use Rattle.std.proofs.lemmas.Bool.{cases_Bool}
 use Rattle.std.proofs.lemmas.Bool.{ltb-true, ltb-false}
 use Rattle.std.proofs.lemmas.List.Folds.{find_at}
@@ -47,6 +48,20 @@ found p xs place d is =
     let parts : (ltb (position_or_len p xs) (length xs) ≡ true) × (position_or_len p xs ≡ place) = cond_some (ltb (position_or_len p xs) (length xs)) (position_or_len p xs) place is in
     let there : position_or_len p xs < length xs = ltb-true (position_or_len p xs) (length xs) parts.0 in
     find_at p xs ∙ slice_get-get_or xs (position_or_len p xs) d there ∙ ap (λ i. Some (get_or xs i d)) parts.1
+
+pub found_there : {X : Type 0} (p : X → Bool) (xs : List X) (place : ℕ) → position p xs ≡ Some place → find p xs ≡ slice_get xs place
+found_there p xs place is =
+    let parts : (ltb (position_or_len p xs) (length xs) ≡ true) × (position_or_len p xs ≡ place) = cond_some (ltb (position_or_len p xs) (length xs)) (position_or_len p xs) place is in
+    find_at p xs ∙ ap (λ i. slice_get xs i) parts.1
+
+pub place_below : {X : Type 0} (p : X → Bool) (xs : List X) (place : ℕ) → position p xs ≡ Some place → place < length xs
+place_below p xs place is =
+    let parts : (ltb (position_or_len p xs) (length xs) ≡ true) × (position_or_len p xs ≡ place) = cond_some (ltb (position_or_len p xs) (length xs)) (position_or_len p xs) place is in
+    subst (λ i. i < length xs) parts.1 (ltb-true (position_or_len p xs) (length xs) parts.0)
+
+pub places_below : {X : Type 0} (p : X → Bool) (xs : List X) (place : Option ℕ) → place ≡ position p xs → IfSome place (λ place. place < length xs)
+places_below p xs None is = tt
+places_below p xs (Some place) is = place_below p xs place (sym is)
 
 pub not_found : {X : Type 0} (p : X → Bool) (xs : List X) → position p xs ≡ None → find p xs ≡ None
 not_found p xs is = elim (cases_Bool (ltb (position_or_len p xs) (length xs))) [

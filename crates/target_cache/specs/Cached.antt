@@ -103,11 +103,12 @@ pub record AreTags (cache : Cached) (tags : List Tag) : Type 0 where
   pub count : length tags ≡ cache.machine.blocks
   pub each : (block : ℕ) → block < cache.machine.blocks → slice_index_or tags block Invalid ≡ tag_of cache block
 
--- what the code keeps: sets with room for their ways, and the tags of all blocks
+-- what the code keeps: sets with room for their ways of blocks, and the tags of all blocks
 abbrev pub cached : MachineParts → List LinesInRoom → Cached
 cached machine sets = record { machine = machine; sets = map (λ (set : LinesInRoom). set.lines) sets }
 
 pub record IsKept (machine : MachineParts) (tags : List Tag) (sets : List LinesInRoom) : Type 0 where
   pub room : All (λ (set : LinesInRoom). machine.ways ≤ set.room) sets
+  pub size : All (λ (set : LinesInRoom). set.size ≡ machine.block_bytes) sets
   pub tagged : AreTags (cached machine sets) tags
   pub sound : IsCached (cached machine sets)

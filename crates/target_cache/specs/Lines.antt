@@ -44,7 +44,8 @@ with_installed ways line lines = (if nat_lt (length lines) ways then lines else 
 abbrev pub AreDistinct : List Line → Type 0
 AreDistinct lines = (block : ℕ) → length (filter (holds block) lines) ≤ 1
 
--- lines in so much room
+-- lines with blocks of a size, in so much room
 pub record LinesInRoom : Type 0 where
   pub lines : List Line
   pub room : ℕ
+  pub size : ℕ

@@ -1,5 +1,5 @@
-ghost use Rattle.std.specs.Prelude.{◌≡◌, ◌<◌, [], length, replicate, IfOk};
-ghost use Rattle.std.specs.Option.{option_copied};
+ghost use Rattle.std.specs.Prelude.{◌≡◌, ◌<◌, ◌≤◌, [], length, replicate, IfOk};
+ghost use Rattle.wt_params.specs.Machine.{IsBlockSize};
 ghost use Rattle.block_tags.specs.declared.tag.Tag.TheVariants.{Invalid};
 ghost use Rattle.target_cache.specs.Cached.{IsAccess, IsCached, empty_cache, set_of, line_of, tag_of, read_of, hit_of, write_of, drop_of, replaced_of, install_of};
 
@@ -37,7 +37,9 @@ impl Cache {
         ensures machine { IfOk result (λ cache. cache.machine ≡ machine.now) }
     {
         let tags = TagTable::new(alloc, machine.blocks() as u32)?;
-        let sets = empty_sets(alloc, machine.sets() as usize, machine.ways() as usize)?;
+        let ways = machine.ways() as usize;
+        let size = machine.block_bytes() as usize;
+        let sets = empty_sets(alloc, machine.sets() as usize, ways, size)?;
         Ok(Cache {
             machine: *machine,
             tags,
@@ -54,10 +56,10 @@ impl Cache {
         self.tags.get(block)
     }
 
-    /// The line of a block. None exactly where there is none.
-    pub fn line(&self, block: u32) -> Option<&Line>
+    /// A copy of the line of a block. None exactly where there is none.
+    pub fn line(&self, block: u32) -> Option<Line>
         requires { block < self.now.machine.blocks }
-        ensures { option_copied result ≡ line_of self.now block }
+        ensures { result ≡ line_of self.now block }
     {
         let set = self.set(block);
         self.sets[set].line(block)
@@ -151,13 +153,20 @@ impl Cache {
     }
 }
 
-/// So many sets without a line, with room for so many.
-fn empty_sets(alloc: Global, count: usize, ways: usize) -> Result<Vec<LineSet>, NoMemory>
-    ensures { IfOk result (λ sets. sets.items ≡ replicate count (record { lines = []; room = ways })) }
+/// So many sets without a line, with room for so many of a size.
+fn empty_sets(
+    alloc: Global,
+    count: usize,
+    ways: usize,
+    size: usize,
+) -> Result<Vec<LineSet>, NoMemory>
+    requires size { IsBlockSize size }
+    requires few { ways ≤ 8 }
+    ensures { IfOk result (λ sets. sets.items ≡ replicate count (record { lines = []; room = ways; size = size })) }
 {
     let mut sets = Vec::with_capacity(alloc, count)?;
     for _i in 0..count {
-        sets.push(LineSet::new(alloc, ways)?)?;
+        sets.push(LineSet::new(alloc, ways, size)?)?;
     }
     Ok(sets)
 }

@@ -4,6 +4,7 @@
 #![tactic(auto)]
 
 mod answer;
+mod bytes;
 mod cache;
 mod line;
 mod line_set;

@@ -1,9 +1,8 @@
-ghost use Rattle.std.specs.Prelude.{◌≡◌, ◌<◌, ◌≤◌, length, IfSome};
-ghost use Rattle.std.specs.Option.{option_copied};
+ghost use Rattle.std.specs.Prelude.{◌≡◌, ◌<◌, ◌≤◌, length};
 ghost use Rattle.wt_params.specs.Machine.{home_of};
 ghost use Rattle.dir1sw.specs.Homes.{block_of};
 ghost use Rattle.quantum.specs.Stations.{IsUnbroken, machine_of};
-ghost use Rattle.wt_report.specs.Memory.{block_text, first_copy, home_memory, shared_bytes, shared_text, writable_copy};
+ghost use Rattle.wt_report.specs.Memory.{block_text, first_copy, home_memory, shared_text, writable_copy};
 ghost use Rattle.wt_report.specs.Stations.{AreStationsOf, IsStationOf, node_of, nodes_of};
 ghost use Rattle.wt_outside.specs.Writes.{Writes};
 
@@ -14,6 +13,7 @@ use quantum::Station;
 use std::alloc::Global;
 use wt_outside::{Sink, WriteFault};
 use wt_params::Machine;
+use wt_proto::Block;
 
 /// Writes shared memory.
 pub(crate) fn write_shared<K: Sink>(
@@ -45,33 +45,25 @@ fn write_block<K: Sink>(
     // So that no address wraps.
     prove!(machine.blocks() <= 65_536);
     prove!(machine.block_bytes() <= 128);
-    let bytes = shared_bytes(machine, stations, block);
-    write_groups(alloc, b"shared", machine.block_address(block), bytes, out)
-}
-
-/// The bytes of a block.
-fn shared_bytes<'a>(machine: &Machine, stations: &'a [Station], block: u32) -> &'a [u8]
-    requires stations { AreStationsOf machine.now stations.now }
-    requires exists { block < machine.now.blocks }
-    ensures bytes { result.now ≡ shared_bytes machine.now (nodes_of stations.now) block }
-    ensures few { length result.now ≤ 128 }
-{
+    let address = machine.block_address(block);
     match first_copy(machine, stations, block) {
-        Some(bytes) => bytes,
-        None => home_memory(machine, stations, block),
+        Some(copy) => write_groups(alloc, b"shared", address, copy.bytes(), out),
+        None => {
+            let bytes = home_memory(machine, stations, block);
+            write_groups(alloc, b"shared", address, bytes, out)
+        }
     }
 }
 
 /// The writable copy of a block at the least node that holds one.
-fn first_copy<'a>(machine: &Machine, stations: &'a [Station], block: u32) -> Option<&'a [u8]>
+fn first_copy(machine: &Machine, stations: &[Station], block: u32) -> Option<Block>
     requires stations { AreStationsOf machine.now stations.now }
     requires exists { block < machine.now.blocks }
-    ensures bytes { option_copied result ≡ first_copy block (nodes_of stations.now) }
-    ensures few { IfSome result (λ bytes. length bytes.now ≤ 128) }
+    ensures { result ≡ first_copy block (nodes_of stations.now) }
 {
     for station in stations {
-        if let Some(bytes) = station_copy(machine, station, block) {
-            return Some(bytes);
+        if let Some(copy) = station_copy(machine, station, block) {
+            return Some(copy);
         }
     }
     None
@@ -100,28 +92,26 @@ fn station_memory<'a>(machine: &Machine, place: u32, station: &'a Station, block
 }
 
 /// The writable copy of a block that the node of a station holds.
-fn station_copy<'a>(machine: &Machine, station: &'a Station, block: u32) -> Option<&'a [u8]>
+fn station_copy(machine: &Machine, station: &Station, block: u32) -> Option<Block>
     requires unbroken { IsUnbroken station.now }
     requires machine { machine_of station.now ≡ machine.now }
     requires exists { block < machine.now.blocks }
-    ensures bytes { option_copied result ≡ writable_copy block (node_of station.now) }
-    ensures few { IfSome result (λ bytes. length bytes.now ≤ 128) }
+    ensures { result ≡ writable_copy block (node_of station.now) }
 {
     writable_copy(station.node(), block)
 }
 
 /// The bytes of the writable copy of a block that a node holds.
-fn writable_copy(node: &Node, block: u32) -> Option<&[u8]>
+fn writable_copy(node: &Node, block: u32) -> Option<Block>
     requires { block < node.now.state.cache.machine.blocks }
-    ensures bytes { option_copied result ≡ writable_copy block node.now.state }
-    ensures few { IfSome result (λ bytes. length bytes.now ≤ 128) }
+    ensures { result ≡ writable_copy block node.now.state }
 {
     let cache = node.cache();
     if cache.tag(block) != Tag::Writable {
         return None;
     }
     match cache.line(block) {
-        Some(line) => Some(line.bytes.bytes()),
+        Some(line) => Some(line.bytes),
         None => None,
     }
 }

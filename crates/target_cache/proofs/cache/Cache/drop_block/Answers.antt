@@ -29,7 +29,7 @@ invariant_of-self c =
     (reached c.self.inside.machine c.self.inside.tags c.self.inside.sets.items c.args.block c.set-i.result c.index_mut-set.result.now c.args.self.now
     c.self.invariant c.self.view_is c.set-i.ensures.set c.set-i.ensures.there c.index_mut-set.ensures.value)
     (omega (arith, ap (λ (cache : Cached). cache.machine.blocks) c.self.view_is))
-    c.take-line.ensures.room c.take-line.ensures.lines)
+    c.take-line.ensures.room c.take-line.ensures.size c.take-line.ensures.lines)
 
 pub returns-clause-line : goal.returns-clause-line
 unfolding line_of

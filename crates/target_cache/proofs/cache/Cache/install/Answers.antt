@@ -6,7 +6,7 @@ use Rattle.target_cache.specs.declared.line.Line.{Line}
 use Rattle.target_cache.specs.declared.cache.Cache.TheInside.{Inside}
 use Rattle.target_cache.specs.Lines.{LinesInRoom, holds, tag_by, replaced_in, with_installed}
 use Rattle.target_cache.specs.Cached.{Cached, cached, set_of, lines_of, line_of, replaced_of, install_of}
-use Rattle.target_cache.proofs.KeptLaws.{reached, held_are, held_lines, untagged, invalid_is_none, kept_installed, put_installed, replaced_exists}
+use Rattle.target_cache.proofs.KeptLaws.{reached, held_are, held_lines, held_size, untagged, invalid_is_none, kept_installed, put_installed, replaced_exists}
 use Rattle.target_cache.proofs.cache.Cache.install.Goals as goal
 use Rattle.target_cache.proofs.cache.Cache.install.Goals.{then-line, else-line, in-Some, in_default}
 
@@ -16,6 +16,14 @@ install-replaced-requires-clause-few c =
     (reached c.self.inside.machine c.self.inside.tags c.self.inside.sets.items c.args.line.block c.set-i.result c.index_mut-set.result.now c.args.self.now
     c.self.invariant c.self.view_is c.set-i.ensures.set c.set-i.ensures.there c.index_mut-set.ensures.value) in
     omega (arith, are.few, c.ways-ways.ensures.value)
+
+pub install-replaced-requires-clause-size : goal.install-replaced-requires-clause-size
+install-replaced-requires-clause-size c =
+    c.requires.size
+    ∙ ap (λ (cache : Cached). cache.machine.block_bytes) (sym c.self.view_is)
+    ∙ sym (held_size _ _ _ _ _ _
+    (reached c.self.inside.machine c.self.inside.tags c.self.inside.sets.items c.args.line.block c.set-i.result c.index_mut-set.result.now c.args.self.now
+    c.self.invariant c.self.view_is c.set-i.ensures.set c.set-i.ensures.there c.index_mut-set.ensures.value))
 
 pub set-requires : goal.set-requires
 set-requires c =
@@ -77,6 +85,7 @@ invariant_of-self c =
     (omega (arith, c.ways-ways.ensures.value, c.ways-ways.ensures.range.at_least))
     (subst (λ (l : List Line). find (holds c.args.line.block) l ≡ None) (sym same) none)
     c.install-replaced.ensures.room
+    c.install-replaced.ensures.size
     (c.install-replaced.ensures.lines ∙ ap (λ (ways : ℕ). with_installed ways c.args.line c.index_mut-set.result.now.lines) c.ways-ways.ensures.value) in
     rw (c.set-2.ensures, machine_is c, sets_are c, tags_are c, tag_is c) kept
 

@@ -27,7 +27,7 @@ invariant_of-self c =
     kept_written c.self.inside.machine c.self.inside.tags c.self.inside.sets.items c.args.block c.set-i.result c.index_mut-set.result.now c.write.new.self
     c.args.offset c.args.width c.args.value r
     (let same : c.self.inside.machine.block_bytes ≡ c.args.self.now.machine.block_bytes = ap (λ (cache : Cached). cache.machine.block_bytes) c.self.view_is in omega (arith, c.requires.access.inside))
-    c.write.ensures.room c.write.ensures.lines
+    c.write.ensures.room c.write.ensures.size c.write.ensures.lines
 
 pub returns-in-Writable-clause-after : goal.returns-in-Writable-clause-after
 returns-in-Writable-clause-after c =
