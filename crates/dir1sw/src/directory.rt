@@ -6,13 +6,11 @@ ghost use Rattle.dir1sw.specs.VersionOne.{AreRowsOfVersion1};
 ghost use Rattle.dir1sw.specs.Homes.{IsHome, IsBrokenFrom, fresh_block, start_of, block_of, with_block, row_of};
 
 use crate::home::{DirAct, HomeBlock, Place};
+use crate::memory::BlockMemory;
 use std::alloc::Global;
 use std::marker::Model;
 use wt_params::{Machine, NoMemory};
-use wt_proto::{Block, DirEntry, DirState, Msg, Sends, Waiting};
-
-/// The bytes of the largest block, all zero.
-const ZEROS: [u8; 128] = [0; 128];
+use wt_proto::{DirEntry, DirState, Msg, Sends, Waiting};
 
 /// The directory of a node, with the memory of its blocks. After want of memory it is broken: it answers want of
 /// memory from then on.
@@ -132,7 +130,7 @@ fn fresh_blocks(alloc: Global, machine: &Machine, count: usize) -> Result<Vec<Ho
                 state: DirState::Idle,
                 waiting: Waiting::new(alloc),
             },
-            memory: Block::new(&ZEROS[..machine.block_bytes() as usize]),
+            memory: BlockMemory::new(alloc, machine.block_bytes() as usize)?,
         })?;
     }
     Ok(blocks)

@@ -1,6 +1,7 @@
 ghost use Rattle.std.specs.Prelude.{◌≡◌, ◌^◌, ◌<◌, ◌≤◌, ◌++◌, true, false, map, IfOk, OnOk};
 ghost use Rattle.dir1sw.specs.Table.{IsSound, copies_of, IsRow, is_busy_state, grant_body, granted_to, answer_of, call_back_of, invalidation_to, invalidate_of, serve_of, request_of, put_s_of, put_x_of, wake_after, inv_ack_of, wake_of, arrive_of};
 
+use crate::memory::BlockMemory;
 use dir_list::{Few, Readers, Removed};
 use wt_params::NoMemory;
 use wt_proto::{Block, Body, DirEntry, DirState, Msg, Outgoing, Request, Sends, Targets, TrapPlan};
@@ -29,12 +30,17 @@ pub struct Place {
 #[derive(Debug, Drop)]
 pub struct HomeBlock {
     pub entry: DirEntry,
-    pub memory: Block,
+    pub memory: BlockMemory,
 }
 
 impl HomeBlock {
     /// Handles a message.
-    pub fn arrive(&mut self, place: Place, body: &Body, out: &mut Sends) -> Result<DirAct, NoMemory>
+    pub(crate) fn arrive(
+        &mut self,
+        place: Place,
+        body: &Body,
+        out: &mut Sends,
+    ) -> Result<DirAct, NoMemory>
         requires nodes { 1 ≤ place.nodes }
         requires pointers { place.pointers ≤ 4 }
         requires sound { IsSound place.pointers self.old.entry.state }
@@ -51,7 +57,7 @@ impl HomeBlock {
                 self.request(place, true, out)
             }
             Body::PutS => Ok(self.put_s(place)),
-            Body::PutX { bytes } => Ok(self.put_x(place, bytes)),
+            Body::PutX { bytes } => self.put_x(place, bytes),
             Body::InvAck { bytes } => self.inv_ack(place, bytes, out),
             Body::Wake => self.wake(place, out),
             _ => Ok(DirAct::Stray),
@@ -213,7 +219,7 @@ impl HomeBlock {
     {
         let msg = Msg {
             block: place.block,
-            body: data(request.exclusive, self.memory.copy()),
+            body: data(request.exclusive, self.memory.block()),
         };
         out.push(Outgoing {
             to: request.node,
@@ -263,23 +269,23 @@ impl HomeBlock {
     }
 
     /// A block that could be written comes back.
-    fn put_x(&mut self, place: Place, bytes: &Block) -> DirAct
+    fn put_x(&mut self, place: Place, bytes: &Block) -> Result<DirAct, NoMemory>
         requires { IsSound place.pointers self.old.entry.state }
-        ensures home { self.new ≡ (put_x_of place.from bytes.now self.old).home }
-        ensures act { result ≡ (put_x_of place.from bytes.now self.old).act }
+        ensures home { OnOk result (self.new ≡ (put_x_of place.from bytes.now self.old).home) }
+        ensures act { IfOk result (λ act. act ≡ (put_x_of place.from bytes.now self.old).act) }
         ensures sound { IsSound place.pointers self.new.entry.state }
     {
         match self.entry.state {
             DirState::Exclusive { owner } if owner == place.from => {
-                self.memory = bytes.copy();
+                self.memory.replace(bytes)?;
                 self.entry.state = DirState::Idle;
-                DirAct::Done
+                Ok(DirAct::Done)
             }
             DirState::Busy { .. } => {
-                self.memory = bytes.copy();
-                DirAct::Done
+                self.memory.replace(bytes)?;
+                Ok(DirAct::Done)
             }
-            _ => DirAct::Stray,
+            _ => Ok(DirAct::Stray),
         }
     }
 
@@ -304,7 +310,7 @@ impl HomeBlock {
             return Ok(DirAct::Stray);
         };
         if let Some(bytes) = bytes {
-            self.memory = bytes.copy();
+            self.memory.replace(bytes)?;
         }
         if left > 1 {
             self.entry.state = DirState::Busy {

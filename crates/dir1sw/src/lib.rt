@@ -4,6 +4,8 @@
 
 mod directory;
 mod home;
+mod memory;
 
 pub use directory::{Directory, rows_fit, rows_of_version_1};
 pub use home::{DirAct, HomeBlock, Place};
+pub use memory::BlockMemory;
