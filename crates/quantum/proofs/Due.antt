@@ -1,21 +1,20 @@
 -- The time of a station's least event: when it stands, and with one more message.
-use Rattle.std.proofs.Common.{◌≡◌, ℕ, suc, ◌+◌, ◌<◌, ◌≤◌, ◌⊎◌, Bool, true, false, cond, eqb-true, eq-eqb, List, [], ◌∷◌, Option, Some, None, append-nil, refl, ap, sym, ◌∙◌, subst, inl, inr, arith}
+use Rattle.std.proofs.Common.{◌≡◌, ℕ, ◌<◌, ◌≤◌, ◌⊎◌, Bool, true, false, cond, eqb-true, eq-eqb, List, [], ◌∷◌, Option, Some, None, append-nil, refl, ap, sym, ◌∙◌, subst, inl, inr, arith}
 use Rattle.std.specs.Prelude.{nat_lt, option_map, if◌then◌else◌}
 use Rattle.std.proofs.lemmas.Bool.Decides.{nat_tests}
 use Rattle.std.specs.Ordering.{eq_by_cmp}
 use Rattle.std.specs.FinMap.{get, insert, get-insert}
 use Rattle.wt_proto.specs.declared.key.Key.{Key}
-use Rattle.wt_proto.specs.declared.message.Msg.{Msg}
 use Rattle.wt_proto.specs.declared.message.Stamped.{Stamped}
 use Rattle.wt_proto.specs.KeyOrder.{key_cmp}
 use Rattle.wt_proto.specs.Messages.{key_of}
 use Rattle.wt_proto.proofs.KeyLaws.{key_cmp_total}
 use Rattle.event_queue.specs.Rising.{IsRising, insert_of}
-use Rattle.discrete_events.specs.Simulation.{Simulation, Event, Step, Arrival, Message, step_key}
+use Rattle.discrete_events.specs.Simulation.{Simulation, Event, Step, Arrival}
 use Rattle.discrete_events.specs.World.{is_spent, counts_below, events_below, least}
 use Rattle.discrete_events.proofs.Keys.{upto_time, is_key, same_key}
 use Rattle.discrete_events.proofs.Queues.{Queue}
-use Rattle.discrete_events.proofs.Events.{IsEventOf, counts_time, counts_unspent, counts_for, event_in, least_in, least_upto, least_some}
+use Rattle.discrete_events.proofs.Events.{counts_time, counts_unspent, counts_for, event_in, least_in, least_upto, least_some}
 use Rattle.discrete_events.proofs.FreeRuns.{counts_and_is}
 use Rattle.node.specs.React.{wind_tunnel}
 use Rattle.quantum.specs.declared.site.Site.{Site}

@@ -85,13 +85,10 @@ impl Site {
     pub fn least_with(&self, due: Option<u64>, time: u64) -> Option<u64>
         ensures { result ≡ least_with_of self.now due time }
     {
-        if self.node.spent() {
+        if self.node.spent() || self.node.machine().budget() <= time {
             return due;
         }
-        if time < self.node.machine().budget() {
-            return Some(earlier(due, time));
-        }
-        due
+        Some(earlier(due, time))
     }
 
     /// The node's next event before a time, where `first` is the time of its first message.

@@ -8,9 +8,9 @@ use Rattle.quantum.proofs.station.Station.new.Goals as goal
 
 pub invariant_of-result : goal.invariant_of-result
 invariant_of-result c = λ unbroken. record {
-    rising = subst IsRising (sym c.in_ok-site.ensures.queue) refl;
-    live = site_live 0 c.in_ok-site.site false c.in_ok-site.ensures.site;
-    due_is = c.least-due.ensures 0 c.in_ok-site.ensures.site;
+  rising = subst IsRising (sym c.in_ok-site.ensures.queue) refl;
+  live = site_live 0 c.in_ok-site.site false c.in_ok-site.ensures.site;
+  due_is = c.least-due.ensures 0 c.in_ok-site.ensures.site;
 }
 
 pub returns-clause-live : goal.returns-clause-live
