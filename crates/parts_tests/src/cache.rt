@@ -55,6 +55,7 @@ fn a_set_of_two_ways(rt: HostRuntime) -> Result<(), Fail> {
     assert!(rt; cache.write(1, 14, 2, 0xaabb_ccdd) == WriteHit::Hit);
     assert!(rt; cache.read(1, 12, 4) == Some(0xccdd_1111));
     assert!(rt; install(&rt, &mut cache, line(2, true, 0x12)) == Some(line(0, false, 0x10)));
+    assert!(rt; cache.line(2) == Some(line(2, true, 0x12)));
     assert!(rt; cache.drop_block(1).is_some());
     assert!(rt; (cache.tag(1), cache.tag(2)) == (Tag::Invalid, Tag::Writable));
     Ok(())
