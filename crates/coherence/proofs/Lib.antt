@@ -17,3 +17,4 @@ pub mod StepDeals
 pub mod RowSends
 pub mod MessageDeals
 pub mod RowDeals
+pub mod Moves

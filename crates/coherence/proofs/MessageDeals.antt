@@ -96,7 +96,7 @@ of_another : (block other : ℕ) (body : Body) → (other ≢ block) → body_if
 of_another block other body apart = rw (ne_eqb other block apart) refl
 
 -- who waits for a block of this kind asks for it
-waits_for : (mode : Mode) (block : ℕ) (exclusive : Bool) → wanted_in block mode ≡ Some exclusive → (mode ≡ Waiting block exclusive) × (asks_for mode block exclusive ≡ true)
+pub waits_for : (mode : Mode) (block : ℕ) (exclusive : Bool) → wanted_in block mode ≡ Some exclusive → (mode ≡ Waiting block exclusive) × (asks_for mode block exclusive ≡ true)
 waits_for Running block exclusive is = absurd (let e : None ≡ Some exclusive = is in cc)
 waits_for InBarrier block exclusive is = absurd (let e : None ≡ Some exclusive = is in cc)
 waits_for (Stopped cause) block exclusive is = absurd (let e : None ≡ Some exclusive = is in cc)

@@ -19,9 +19,17 @@ use Rattle.dir1sw.specs.declared.home.Place.{Place}
 use Rattle.dir1sw.specs.Table.{Row, quiet, grant_body, granted_to, answer_of, invalidation_to, invalidate_of, take_over_of, left_of, serve_of, request_of, put_s_of, put_x_of, with_wake, wake_after, grant_of, inv_ack_of, wake_of, arrive_of, with_state, with_memory}
 use Rattle.coherence.specs.Pipes.{not_to_home_of}
 
+-- a message about the barrier
+abbrev pub is_of_barrier : Body → Bool
+is_of_barrier Arrive = true
+is_of_barrier Leave = true
+is_of_barrier Go = true
+is_of_barrier body = false
+
 pub record GoesBack (about : ℕ) (outgoing : Outgoing) : Type 0 where
   pub block : outgoing.msg.block ≡ about
   pub back : not_to_home_of outgoing.msg.body ≡ 1
+  pub other : is_of_barrier outgoing.msg.body ≡ false
 
 abbrev pub AllGoBack : ℕ → List Outgoing → Type 0
 AllGoBack about [] = ⊤
@@ -37,15 +45,19 @@ both_back about (first ∷ rest) other is_one is_other = (is_one.0, both_back ab
 
 pub calls_back : (block : ℕ) (nodes : List ℕ) → AllGoBack block (map (invalidation block) nodes)
 calls_back block [] = tt
-calls_back block (first ∷ rest) = (record { block = refl; back = refl }, calls_back block rest)
+calls_back block (first ∷ rest) = (record { block = refl; back = refl; other = refl }, calls_back block rest)
 
 calls_listed : (place : Place) (nodes : List ℕ) → AllGoBack place.block (map (invalidation_to place) nodes)
 calls_listed place [] = tt
-calls_listed place (first ∷ rest) = (record { block = refl; back = refl }, calls_listed place rest)
+calls_listed place (first ∷ rest) = (record { block = refl; back = refl; other = refl }, calls_listed place rest)
 
 grant_back : (exclusive : Bool) (bytes : List ℕ) → not_to_home_of (grant_body exclusive bytes) ≡ 1
 grant_back true bytes = refl
 grant_back false bytes = refl
+
+grant_other : (exclusive : Bool) (bytes : List ℕ) → is_of_barrier (grant_body exclusive bytes) ≡ false
+grant_other true bytes = refl
+grant_other false bytes = refl
 
 either : (about : ℕ) (test : Bool) (one other : Row) → RowGoesBack about one → RowGoesBack about other → RowGoesBack about (cond test one other)
 either about true one other is_one is_other = is_one
@@ -55,7 +67,7 @@ abbrev block : DirState → List Request → List ℕ → HomeBlock
 block state waiting memory = record { entry = record { state = state; waiting = waiting }; memory = memory }
 
 answers : (place : Place) (request : Request) (state : DirState) (home : HomeBlock) → RowGoesBack place.block (answer_of place request state home)
-answers place request state home = (record { block = refl; back = grant_back request.exclusive home.memory }, tt)
+answers place request state home = (record { block = refl; back = grant_back request.exclusive home.memory; other = grant_other request.exclusive home.memory }, tt)
 
 invalidates : (place : Place) (request : Request) (others : List ℕ) (home : HomeBlock) → RowGoesBack place.block (invalidate_of place request others home)
 invalidates place request [] home = answers place request (Exclusive request.node) home
@@ -92,9 +104,9 @@ wake_back place (Busy from for_x left) waiting memory = tt
 wake_back place Idle [] memory = tt
 wake_back place (Shared readers) [] memory = tt
 wake_back place (Exclusive owner) [] memory = tt
-wake_back place Idle (first ∷ rest) memory = (record { block = refl; back = refl }, tt)
-wake_back place (Shared readers) (first ∷ rest) memory = (record { block = refl; back = refl }, tt)
-wake_back place (Exclusive owner) (first ∷ rest) memory = (record { block = refl; back = refl }, tt)
+wake_back place Idle (first ∷ rest) memory = (record { block = refl; back = refl; other = refl }, tt)
+wake_back place (Shared readers) (first ∷ rest) memory = (record { block = refl; back = refl; other = refl }, tt)
+wake_back place (Exclusive owner) (first ∷ rest) memory = (record { block = refl; back = refl; other = refl }, tt)
 
 wakes : (place : Place) (row : Row) → RowGoesBack place.block row → RowGoesBack place.block (with_wake place row)
 wakes place row back = both_back place.block row.sends _ back (wake_back place row.home.entry.state row.home.entry.waiting row.home.memory)

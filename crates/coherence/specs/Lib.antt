@@ -10,3 +10,4 @@ pub mod Meetings
 pub mod Values
 pub mod Deals
 pub mod RowDeals
+pub mod Moves

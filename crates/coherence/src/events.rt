@@ -1,4 +1,5 @@
 ghost use Rattle.coherence.specs.Deals.{DealsAreSteps, StepsDeal, MessagesDeal};
+ghost use Rattle.coherence.specs.Moves.{EventsMove};
 ghost use Rattle.coherence.specs.RowDeals.{RowsDeal};
 
 /// What a node does to a block by some deals is as many steps of that block.
@@ -19,4 +20,9 @@ pub fn messages_deal()
 /// A message to the home of its block does what the row of the directory's tables says.
 pub fn rows_deal()
     ensures { RowsDeal }
+{}
+
+/// Each event of a node moves it at the barrier as a move of the barrier by itself does.
+pub fn events_move()
+    ensures { EventsMove }
 {}

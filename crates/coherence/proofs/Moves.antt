@@ -1,0 +1,488 @@
+-- What an event of a node does at the barrier.
+use Rattle.std.proofs.Common.{◌≡◌, ℕ, ◌+◌, ◌<◌, inl, inr, Bool, true, false, cond, List, [], ◌∷◌, ◌++◌, map, Option, Some, None, Result, Ok, Err, refl, ap, sym, ◌∙◌, arith}
+use Rattle.std.specs.Prelude.{⊤, ◌==◌}
+use Rattle.std.proofs.lemmas.Bool.{cases_Bool, ne_eqb, eqb-true}
+use Rattle.wt_params.specs.declared.parts.MachineParts.{MachineParts}
+use Rattle.wt_params.specs.Machine.{shared_block, home_of}
+use Rattle.dir_list.specs.Lists.{AreRising}
+use Rattle.rv_decode.specs.declared.instr.CicoOp.{CicoOp}
+use Rattle.rv_decode.specs.declared.instr.LoadOp.{LoadOp}
+use Rattle.rv_decode.specs.declared.instr.StoreOp.{StoreOp}
+use Rattle.rv_exec.specs.declared.effect.Effect.{Effect}
+use Rattle.rv_exec.specs.declared.effect.Effect.TheVariants.{Next, Load, Store, Cico, Call, Break, BadTarget, Illegal}
+use Rattle.rv_exec.specs.Widths.{load_width_of, store_width_of}
+use Rattle.priv_mem.specs.declared.fault.MemFault.{MemFault}
+use Rattle.priv_mem.specs.declared.fault.MemFault.TheVariants.{Misaligned, Outside}
+use Rattle.priv_mem.specs.Memory.{load_of, store_of}
+use Rattle.wt_proto.specs.declared.key.Key.{Key}
+use Rattle.wt_proto.specs.declared.message.Body.{Body}
+use Rattle.wt_proto.specs.declared.message.Body.TheVariants.{GetS, GetX, PutS, PutX, DataS, DataX, Inv, InvAck, Wake, Arrive, Leave, Go}
+use Rattle.wt_proto.specs.declared.message.Msg.{Msg}
+use Rattle.wt_proto.specs.declared.message.Outgoing.{Outgoing}
+use Rattle.wt_proto.specs.declared.mode.Mode.{Mode}
+use Rattle.wt_proto.specs.declared.mode.Mode.TheVariants.{Running, Waiting, InBarrier}
+use Rattle.wt_proto.specs.NodeSets.{has_node}
+use Rattle.block_tags.specs.declared.tag.Tag.{Tag}
+use Rattle.block_tags.specs.declared.tag.Tag.TheVariants.{Invalid, ReadOnly, Writable}
+use Rattle.cico_ops.specs.declared.annotation.CicoAction.{CicoAction}
+use Rattle.cico_ops.specs.declared.annotation.CicoAction.TheVariants as actions
+use Rattle.cico_ops.specs.Annotations.{action_of}
+use Rattle.target_cache.specs.declared.line.Line.{Line}
+use Rattle.target_cache.specs.Cached.{line_of, tag_of, read_of, replaced_of, install_of}
+use Rattle.dir1sw.specs.declared.home.DirAct.{DirAct}
+use Rattle.dir1sw.specs.declared.home.DirAct.TheVariants.{Done, Trap, Stray}
+use Rattle.dir1sw.specs.Homes.{row_of, place_of, block_of, with_block}
+use Rattle.target_barrier.specs.declared.barrier.Release.{Release}
+use Rattle.target_barrier.specs.declared.barrier.Release.TheVariants as releases
+use Rattle.target_barrier.specs.Barrier.{Barrier, arrive_of, leave_of}
+use Rattle.trap_handler.specs.Trap.{invalidation, targets_of, busy_after}
+use Rattle.node.specs.declared.state.NodeState.{NodeState}
+use Rattle.node.specs.declared.state.Send.{Send}
+use Rattle.node.specs.State.{register, in_mode, with_cache, step_time, next_key}
+use Rattle.node.specs.Handled.{Handled, sent_at, gives_back, message_to}
+use Rattle.node.specs.SharedAccess.{offset_of, hit_load_by, shared_load_of, hit_store_by, shared_store_of}
+use Rattle.node.specs.PrivateAccess.{load_by, load_from, store_by, store_to}
+use Rattle.node.specs.Annotation.{annotate_by, annotate_block, annotate_of}
+use Rattle.node.specs.Call.{barrier_call_of, exit_of, call_of}
+use Rattle.node.specs.Processor.{fetch_of, meaning_in, effect_by, execute_of, step_by, step_of}
+use Rattle.node.specs.DirectoryMessage.{act_by, directory_message_of}
+use Rattle.node.specs.DataMessage.{effect_at, resumed, replacing, installed, data_message_of}
+use Rattle.node.specs.InvMessage.{inv_by, inv_message_of}
+use Rattle.node.specs.BarrierMessage.{go_to, release_by, with_barrier, has_unit, arrive_message_of, leave_message_of, go_message_of}
+use Rattle.node.specs.React.{stamped_from, react_to_step, message_by, message_of, react_to_message, counted_step, counted_message}
+use Rattle.node.specs.Sound.{IsNode}
+use Rattle.node.proofs.Barriers.{ReleaseFits, arrive_fits, leave_fits}
+use Rattle.coherence.specs.Deals.{wanted_in, IsWantedIn}
+use Rattle.coherence.specs.RowDeals.{is_for_directory}
+use Rattle.coherence.specs.Meetings.{once, waits_once, gone_once, told_of}
+use Rattle.coherence.specs.Meetings.Stand.{Away}
+use Rattle.coherence.specs.Moves.{stand_in, arrive_in, leave_in, go_in, Tells, IsLeft, IsStepMove, IsNoMove, is_stray_release, IsUnitMove, IsGoMove, answer_to, is_for_unit, comes_from_home, EventsMove}
+use Rattle.coherence.proofs.RowSends.{is_of_barrier, AllGoBack, calls_back, row_goes_back}
+use Rattle.coherence.proofs.MessageDeals.{waits_for}
+
+-- ---- messages that aren't about the barrier
+
+-- None of some sends is about the barrier.
+abbrev pub AreOthers : List Send → Type 0
+AreOthers [] = ⊤
+AreOthers (first ∷ rest) = (is_of_barrier first.msg.body ≡ false) × AreOthers rest
+
+none_told : (body : Body) → is_of_barrier body ≡ false → (arrive_in body ≡ 0) × (leave_in body ≡ 0) × ((node to : ℕ) → go_in node to body ≡ 0)
+none_told GetS is = (refl, refl, λ node to. refl)
+none_told (GetX had) is = (refl, refl, λ node to. refl)
+none_told PutS is = (refl, refl, λ node to. refl)
+none_told (PutX bytes) is = (refl, refl, λ node to. refl)
+none_told (DataS bytes) is = (refl, refl, λ node to. refl)
+none_told (DataX bytes) is = (refl, refl, λ node to. refl)
+none_told Inv is = (refl, refl, λ node to. refl)
+none_told (InvAck bytes) is = (refl, refl, λ node to. refl)
+none_told Wake is = (refl, refl, λ node to. refl)
+none_told Arrive is = absurd cc
+none_told Leave is = absurd cc
+none_told Go is = absurd cc
+
+tells_none : (machine : MachineParts) (from sequence : ℕ) (sends : List Send) → AreOthers sends → Tells 0 0 [] (stamped_from machine from sequence sends)
+tells_none machine from sequence [] others = record { arrives_is = refl; leaves_is = refl; gos_are = λ node. refl }
+tells_none machine from sequence (first ∷ rest) others =
+    let later = tells_none machine from (sequence + 1) rest others.1 in
+    let none = none_told first.msg.body others.0 in
+    record {
+      arrives_is = let a = later.arrives_is in let n = none.0 in omega (arith, a, n);
+      leaves_is = let a = later.leaves_is in let n = none.1 in omega (arith, a, n);
+      gos_are = λ node. let a = later.gos_are node in let n = none.2 node first.to in omega (arith, a, n);
+    }
+
+outgoing_others : (time about : ℕ) (sends : List Outgoing) → AllGoBack about sends → AreOthers (map (sent_at time) sends)
+outgoing_others time about [] back = tt
+outgoing_others time about (first ∷ rest) back = (back.0.other, outgoing_others time about rest back.1)
+
+both_others : (one two : List Send) → AreOthers one → AreOthers two → AreOthers (one ++ two)
+both_others [] two is_one is_two = is_two
+both_others (first ∷ rest) two is_one is_two = (is_one.0, both_others rest two is_one.1 is_two)
+
+back_others : (machine : MachineParts) (time : ℕ) (line : Option Line) → AreOthers (gives_back machine time line)
+back_others machine time None = tt
+back_others machine time (Some line) = (by line.writable, tt)
+  where
+    by : (writable : Bool) → is_of_barrier (cond writable (PutX line.bytes) PutS) ≡ false
+    by true = refl
+    by false = refl
+
+get_other : (exclusive : Bool) → is_of_barrier (cond exclusive (GetX false) GetS) ≡ false
+get_other true = refl
+get_other false = refl
+
+-- ---- a step
+
+-- The rest of a node stays, and nothing is told but by who comes to the barrier or leaves.
+pub record IsStep (old : NodeState) (handled : Handled) : Type 0 where
+  pub left : IsLeft old handled.node
+  pub told : (machine : MachineParts) (from sequence : ℕ) →
+      Tells (waits_once (stand_in handled.node.mode)) (gone_once (stand_in handled.node.mode)) [] (stamped_from machine from sequence handled.sends)
+
+one_told : (send : Send) (arrives leaves : ℕ) (machine : MachineParts) (from sequence : ℕ) → arrive_in send.msg.body ≡ arrives → leave_in send.msg.body ≡ leaves → ((node to : ℕ) → go_in node to send.msg.body ≡ 0) →
+    Tells arrives leaves [] (stamped_from machine from sequence (send ∷ []))
+one_told send arrives leaves machine from sequence a l g = record {
+  arrives_is = omega (arith, a);
+  leaves_is = omega (arith, l);
+  gos_are = λ node. let n = g node send.to in omega (arith, n);
+}
+
+module _ (machine : MachineParts) (time : ℕ) (several : (machine.nodes == 1) ≡ false) (old : NodeState) (running : old.mode ≡ Running) where
+  abbrev Moves : Handled → Type 0
+  Moves handled = IsStep old handled
+
+  -- who isn't at the barrier, and sends nothing about it
+  away : (handled : Handled) → IsLeft old handled.node → stand_in handled.node.mode ≡ Away → AreOthers handled.sends → Moves handled
+  away handled left stand others = record {
+    left = left;
+    told = λ m from sequence. rw stand (tells_none m from sequence handled.sends others);
+  }
+
+  stays : (handled : Handled) → handled.node.directory ≡ old.directory → handled.node.barrier ≡ old.barrier → handled.node.counters.stray ≡ old.counters.stray → handled.node.mode ≡ old.mode → AreOthers handled.sends → Moves handled
+  stays handled directory unit stray mode others =
+      away handled (record { directory = directory; unit = unit; stray = stray }) (ap stand_in (mode ∙ running)) others
+
+  stops : (handled : Handled) → handled.node.directory ≡ old.directory → handled.node.barrier ≡ old.barrier → handled.node.counters.stray ≡ old.counters.stray → stand_in handled.node.mode ≡ Away → AreOthers handled.sends → Moves handled
+  stops handled directory unit stray mode others = away handled (record { directory = directory; unit = unit; stray = stray }) mode others
+
+  shared_loads : (op : LoadOp) (rd address : ℕ) (found : Option ℕ) → Moves (shared_load_of machine time op rd address old found)
+  shared_loads op rd address None = stops _ refl refl refl refl tt
+  shared_loads op rd address (Some target) = by (read_of old.cache target (offset_of machine address) (load_width_of op))
+    where
+      by : (number : Option ℕ) → Moves (hit_load_by machine time op rd address target old number)
+      by (Some number) = stays _ refl refl refl refl tt
+      by None = stops _ refl refl refl refl (refl, tt)
+
+  loads_from : (op : LoadOp) (rd address : ℕ) → Moves (load_from machine time op rd address old)
+  unfolding load_from
+  loads_from op rd address = by (load_of old.private address (load_width_of op))
+    where
+      by : (answer : Result ℕ MemFault) → Moves (load_by machine time op rd address old answer)
+      by (Ok number) = stays _ refl refl refl refl tt
+      by (Err Misaligned) = stops _ refl refl refl refl tt
+      by (Err Outside) = shared_loads op rd address (shared_block machine address)
+
+  shared_stores : (op : StoreOp) (address value : ℕ) (found : Option ℕ) → Moves (shared_store_of machine time op address value old found)
+  shared_stores op address value None = stops _ refl refl refl refl tt
+  shared_stores op address value (Some target) = by (tag_of old.cache target)
+    where
+      by : (tag : Tag) → Moves (hit_store_by machine time op address value target old tag)
+      by Writable = stays _ refl refl refl refl tt
+      by ReadOnly = stops _ refl refl refl refl (refl, tt)
+      by Invalid = stops _ refl refl refl refl (refl, tt)
+
+  stores_to : (op : StoreOp) (address value : ℕ) → Moves (store_to machine time op address value old)
+  unfolding store_to
+  stores_to op address value = by (store_of old.private address (store_width_of op) value)
+    where
+      by : (answer : Result (List ℕ) MemFault) → Moves (store_by machine time op address value old answer)
+      by (Ok memory) = stays _ refl refl refl refl tt
+      by (Err Misaligned) = stops _ refl refl refl refl tt
+      by (Err Outside) = shared_stores op address value (shared_block machine address)
+
+  annotates_by : (target : ℕ) (action : CicoAction) → Moves (annotate_by machine time target old action)
+  annotates_by target actions.Nothing = stays _ refl refl refl refl tt
+  annotates_by target actions.GetS = stops _ refl refl refl refl (refl, tt)
+  annotates_by target (actions.GetX true) = stops _ refl refl refl refl (refl, tt)
+  annotates_by target (actions.GetX false) = stops _ refl refl refl refl (refl, tt)
+  annotates_by target actions.PutS = stays _ refl refl refl refl (back_others machine time (line_of old.cache target))
+  annotates_by target actions.PutX = stays _ refl refl refl refl (back_others machine time (line_of old.cache target))
+
+  annotates_at : (op : CicoOp) (address : ℕ) → Moves (annotate_of machine time op address old)
+  unfolding annotate_of
+  annotates_at op address = by (shared_block machine address)
+    where
+      by : (found : Option ℕ) → Moves (annotate_block machine time op old found)
+      by None = stays _ refl refl refl refl tt
+      by (Some target) = annotates_by target (action_of op (tag_of old.cache target))
+
+  barriers : Moves (barrier_call_of machine time old)
+  barriers = rw several (record {
+    left = record { directory = refl; unit = refl; stray = refl };
+    told = λ m from sequence. one_told (message_to time 0 0 Arrive) 1 0 m from sequence refl refl (λ node to. refl);
+  })
+
+  exits : (code : ℕ) → Moves (exit_of machine time code old)
+  exits code = rw several (record {
+    left = record { directory = refl; unit = refl; stray = refl };
+    told = λ m from sequence. one_told (message_to time 0 0 Leave) 0 1 m from sequence refl refl (λ node to. refl);
+  })
+
+  either : (test : Bool) (one other : Handled) → Moves one → Moves other → Moves (cond test one other)
+  either true one other is_one is_other = is_one
+  either false one other is_one is_other = is_other
+
+  calls : Moves (call_of machine time old)
+  unfolding call_of
+  calls =
+      let call = register old 17 in
+      either (call == 1) _ _ (stays _ refl refl refl refl tt)
+      (either (call == 2) _ _ (stays _ refl refl refl refl tt)
+      (either (call == 3) _ _ (stays _ refl refl refl refl tt)
+      (either (call == 4) _ _ (stays _ refl refl refl refl tt)
+      (either (call == 5) _ _ barriers
+      (either (call == 93) _ _ (exits (register old 10)) (stops _ refl refl refl refl tt))))))
+
+  does : (word : ℕ) (registers : List ℕ) (effect : Effect) → Moves (effect_by machine time word old registers effect)
+  does word registers (Next pc cost) = stays _ refl refl refl refl tt
+  does word registers (Load op rd address) = loads_from op rd address
+  does word registers (Store op address value) = stores_to op address value
+  does word registers (Cico op address) = annotates_at op address
+  does word registers Call = calls
+  does word registers Break = stops _ refl refl refl refl tt
+  does word registers (BadTarget target) = stops _ refl refl refl refl tt
+  does word registers Illegal = stops _ refl refl refl refl tt
+
+  pub step_moves : Moves (step_of machine time old)
+  unfolding execute_of
+  step_moves = by (fetch_of machine old)
+    where
+      by : (found : Option ℕ) → Moves (step_by machine time old found)
+      by None = stops _ refl refl refl refl tt
+      by (Some word) = does word (meaning_in machine word old).0 (meaning_in machine word old).1
+
+step_law : (machine : MachineParts) (node : NodeState) → (machine.nodes == 1) ≡ false → node.mode ≡ Running →
+    IsStepMove node (react_to_step machine node).0 (react_to_step machine node).1
+unfolding react_to_step
+step_law machine node several running =
+    let moved = step_moves machine (step_time node) several (counted_step (next_key machine node) node) running in
+    let handled = step_of machine (step_time node) (counted_step (next_key machine node) node) in
+    record {
+      left = record { directory = moved.left.directory; unit = moved.left.unit; stray = moved.left.stray };
+      tells = moved.told machine handled.node.number handled.node.counters.sent;
+    }
+
+-- ---- a message that isn't about the barrier
+
+-- The processor stands where it stood, and nothing about the barrier is sent.
+pub record IsStill (old : NodeState) (handled : Handled) : Type 0 where
+  pub stand : stand_in handled.node.mode ≡ stand_in old.mode
+  pub unit : handled.node.barrier ≡ old.barrier
+  pub others : AreOthers handled.sends
+
+no_move : (machine : MachineParts) (old : NodeState) (handled : Handled) (from sequence : ℕ) → IsStill old handled → Tells 0 0 [] (stamped_from machine from sequence handled.sends)
+no_move machine old handled from sequence still = tells_none machine from sequence handled.sends still.others
+
+-- a block that has come
+resumed_mode : (machine : MachineParts) (time : ℕ) (line : Line) (old : NodeState) (effect : Option Effect) →
+    ((resumed machine time line.block (installed line old) effect).node.mode ≡ Running) × ((resumed machine time line.block (installed line old) effect).node.barrier ≡ (installed line old).barrier)
+    × ((resumed machine time line.block (installed line old) effect).node.directory ≡ (installed line old).directory) × ((resumed machine time line.block (installed line old) effect).node.counters.stray ≡ (installed line old).counters.stray)
+resumed_mode machine time line old (Some (Load op rd address)) = (refl, refl, refl, refl)
+resumed_mode machine time line old (Some (Store op address value)) = (refl, refl, refl, refl)
+resumed_mode machine time line old (Some (Cico op address)) = (refl, refl, refl, refl)
+resumed_mode machine time line old (Some (Next pc cost)) = (refl, refl, refl, refl)
+resumed_mode machine time line old (Some Call) = (refl, refl, refl, refl)
+resumed_mode machine time line old (Some Break) = (refl, refl, refl, refl)
+resumed_mode machine time line old (Some (BadTarget target)) = (refl, refl, refl, refl)
+resumed_mode machine time line old (Some Illegal) = (refl, refl, refl, refl)
+resumed_mode machine time line old None = (refl, refl, refl, refl)
+
+installed_left : (line : Line) (old : NodeState) → IsLeft old (installed line old)
+installed_left line old = by (replaced_of line old.cache)
+  where
+    by : (replaced : Option Line) → IsLeft old (in_mode Running (replacing replaced (with_cache (install_of line old.cache) old)))
+    by None = record { directory = refl; unit = refl; stray = refl }
+    by (Some other) = record { directory = refl; unit = refl; stray = refl }
+
+waiting_stand : (mode : Mode) (block : ℕ) (exclusive : Bool) → mode ≡ Waiting block exclusive → stand_in mode ≡ Away
+waiting_stand mode block exclusive is = ap stand_in is
+
+data_still : (machine : MachineParts) (time : ℕ) (line : Line) (old : NodeState) → wanted_in line.block old.mode ≡ Some line.writable →
+    IsStill old (data_message_of machine time line old) × IsLeft old (data_message_of machine time line old).node
+unfolding data_message_of
+data_still machine time line old wants =
+    let waits = waits_for old.mode line.block line.writable wants in
+    let is = resumed_mode machine time line old (effect_at machine old) in
+    let left = installed_left line old in
+    rw waits.1 (
+      record {
+        stand = ap stand_in is.0 ∙ sym (waiting_stand old.mode line.block line.writable waits.0);
+        unit = is.1 ∙ left.unit;
+        others = back_others machine time (replaced_of line old.cache);
+      },
+      record { directory = is.2 ∙ left.directory; unit = is.1 ∙ left.unit; stray = is.3 ∙ left.stray },
+    )
+
+inv_still : (machine : MachineParts) (time block : ℕ) (old : NodeState) → IsStill old (inv_message_of machine time block old) × IsLeft old (inv_message_of machine time block old).node
+unfolding inv_message_of
+inv_still machine time block old = by (line_of old.cache block)
+  where
+    by : (line : Option Line) → IsStill old (inv_by machine time block old line) × IsLeft old (inv_by machine time block old line).node
+    by None = (record { stand = refl; unit = refl; others = (refl, tt) }, record { directory = refl; unit = refl; stray = refl })
+    by (Some line) = (record { stand = refl; unit = refl; others = (refl, tt) }, record { directory = refl; unit = refl; stray = refl })
+
+row_still : (machine : MachineParts) (time from : ℕ) (msg : Msg) (old : NodeState) → IsStill old (directory_message_of machine time from msg old)
+unfolding directory_message_of
+row_still machine time from msg old = elim (cases_Bool (home_of machine msg.block == old.number)) [
+  | inl here ↦ rw here (acts (row_of old.directory from msg).act)
+  | inr away ↦ rw away (record { stand = refl; unit = refl; others = tt })
+]
+  where
+    sends : AreOthers (map (sent_at time) (row_of old.directory from msg).sends)
+    sends = outgoing_others time msg.block (row_of old.directory from msg).sends (row_goes_back (place_of old.directory msg.block from) msg.body (block_of old.directory msg.block))
+
+    acts : (act : DirAct) → IsStill old (act_by machine time (map (sent_at time) (row_of old.directory from msg).sends) (record old { directory = with_block msg.block (row_of old.directory from msg).home old.directory }) act)
+    acts Done = record { stand = refl; unit = refl; others = sends }
+    acts Stray = record { stand = refl; unit = refl; others = sends }
+    acts (Trap plan) = record {
+      stand = refl;
+      unit = refl;
+      others = both_others (map (sent_at time) (row_of old.directory from msg).sends) _ sends
+          (outgoing_others (busy_after machine plan time old.busy) plan.block (map (invalidation plan.block) (targets_of machine.nodes plan.targets)) (calls_back plan.block (targets_of machine.nodes plan.targets)));
+    }
+
+copy_law : (machine : MachineParts) (node : NodeState) (key : Key) (msg : Msg) → comes_from_home msg.body ≡ true → IsWantedIn node.mode msg →
+    IsNoMove node (react_to_message machine node key msg).0 (react_to_message machine node key msg).1 × IsLeft node (react_to_message machine node key msg).0
+unfolding react_to_message message_of
+copy_law machine node key msg kind wants = by msg.body kind wants
+  where
+    about : Body → Msg
+    about body = record { block = msg.block; body = body }
+
+    stamped : (body : Body) → IsStill (counted_message key node) (message_by machine key.time key.from msg.block body (counted_message key node)) × IsLeft (counted_message key node) (message_by machine key.time key.from msg.block body (counted_message key node)).node →
+        IsNoMove node (react_to_message machine node key (about body)).0 (react_to_message machine node key (about body)).1 × IsLeft node (react_to_message machine node key (about body)).0
+    stamped body is =
+        let handled = message_by machine key.time key.from msg.block body (counted_message key node) in (
+          record { stand = is.0.stand; unit = is.0.unit; tells = no_move machine (counted_message key node) handled handled.node.number handled.node.counters.sent is.0 },
+          record { directory = is.1.directory; unit = is.1.unit; stray = is.1.stray },
+        )
+
+    by : (body : Body) → comes_from_home body ≡ true → IsWantedIn node.mode (about body) →
+        IsNoMove node (react_to_message machine node key (about body)).0 (react_to_message machine node key (about body)).1 × IsLeft node (react_to_message machine node key (about body)).0
+    by (DataS bytes) k w = stamped (DataS bytes) (data_still machine key.time (record { block = msg.block; writable = false; bytes = bytes }) (counted_message key node) w)
+    by (DataX bytes) k w = stamped (DataX bytes) (data_still machine key.time (record { block = msg.block; writable = true; bytes = bytes }) (counted_message key node) w)
+    by Inv k w = stamped Inv (inv_still machine key.time msg.block (counted_message key node))
+    by GetS k w = absurd cc
+    by (GetX had) k w = absurd cc
+    by PutS k w = absurd cc
+    by (PutX bytes) k w = absurd cc
+    by (InvAck bytes) k w = absurd cc
+    by Wake k w = absurd cc
+    by Arrive k w = absurd cc
+    by Leave k w = absurd cc
+    by Go k w = absurd cc
+
+row_law : (machine : MachineParts) (node : NodeState) (key : Key) (msg : Msg) → is_for_directory msg.body ≡ true →
+    IsNoMove node (react_to_message machine node key msg).0 (react_to_message machine node key msg).1
+unfolding react_to_message message_of
+row_law machine node key msg kind = by msg.body kind
+  where
+    about : Body → Msg
+    about body = record { block = msg.block; body = body }
+
+    stamped : (body : Body) → IsStill (counted_message key node) (message_by machine key.time key.from msg.block body (counted_message key node)) →
+        IsNoMove node (react_to_message machine node key (about body)).0 (react_to_message machine node key (about body)).1
+    stamped body is =
+        let handled = message_by machine key.time key.from msg.block body (counted_message key node) in
+        record { stand = is.stand; unit = is.unit; tells = no_move machine (counted_message key node) handled handled.node.number handled.node.counters.sent is }
+
+    by : (body : Body) → is_for_directory body ≡ true → IsNoMove node (react_to_message machine node key (about body)).0 (react_to_message machine node key (about body)).1
+    by GetS k = stamped GetS (row_still machine key.time key.from (about GetS) (counted_message key node))
+    by (GetX had) k = stamped (GetX had) (row_still machine key.time key.from (about (GetX had)) (counted_message key node))
+    by PutS k = stamped PutS (row_still machine key.time key.from (about PutS) (counted_message key node))
+    by (PutX bytes) k = stamped (PutX bytes) (row_still machine key.time key.from (about (PutX bytes)) (counted_message key node))
+    by (InvAck bytes) k = stamped (InvAck bytes) (row_still machine key.time key.from (about (InvAck bytes)) (counted_message key node))
+    by Wake k = stamped Wake (row_still machine key.time key.from (about Wake) (counted_message key node))
+    by (DataS bytes) k = absurd cc
+    by (DataX bytes) k = absurd cc
+    by Inv k = absurd cc
+    by Arrive k = absurd cc
+    by Leave k = absurd cc
+    by Go k = absurd cc
+
+-- ---- messages about the barrier
+
+-- a node below the first isn't in a rising list
+absent : (limit below : ℕ) (nodes : List ℕ) (node : ℕ) → AreRising limit below nodes → node < below → has_node nodes node ≡ false
+absent limit below [] node rising under = refl
+absent limit below (first ∷ rest) node rising under =
+    let apart : (first == node) ≡ false = ne_eqb first node (λ e. let r = rising.0 in omega (arith, r, e)) in
+    rw apart (absent limit (first + 1) rest node rising.2 (let r = rising.0 in omega (arith, r)))
+
+-- Go to each of some nodes, each of which stands in the list once
+gos_told : (machine : MachineParts) (from sequence time limit below : ℕ) (nodes : List ℕ) → AreRising limit below nodes → Tells 0 0 nodes (stamped_from machine from sequence (go_to time nodes))
+gos_told machine from sequence time limit below [] rising = record { arrives_is = refl; leaves_is = refl; gos_are = λ node. refl }
+gos_told machine from sequence time limit below (first ∷ rest) rising =
+    let later = gos_told machine from (sequence + 1) time limit (first + 1) rest rising.2 in
+    record {
+      arrives_is = let a = later.arrives_is in omega (arith, a);
+      leaves_is = let a = later.leaves_is in omega (arith, a);
+      gos_are = λ node. elim (cases_Bool (first == node)) [
+        | inl same ↦
+            let at : first ≡ node = eqb-true first node same in
+            let none = later.gos_are node ∙ ap once (absent limit (first + 1) rest node rising.2 (omega (arith, at))) in
+            rw same (omega (arith, none))
+        | inr apart ↦ let a = later.gos_are node in rw apart (omega (arith, a))
+      ];
+    }
+
+-- The unit has answered.
+pub record IsAnswered (answer : Barrier × Release) (old : NodeState) (handled : Handled) : Type 0 where
+  pub stand : stand_in handled.node.mode ≡ stand_in old.mode
+  pub directory : handled.node.directory ≡ old.directory
+  pub unit : handled.node.barrier ≡ answer.0
+  pub told : (machine : MachineParts) (from sequence : ℕ) → Tells 0 0 (told_of answer.1) (stamped_from machine from sequence handled.sends)
+  pub stray : handled.node.counters.stray ≡ old.counters.stray + once (is_stray_release answer.1)
+
+answers : (limit time : ℕ) (old : NodeState) (barrier : Barrier) (release : Release) → ReleaseFits limit release → IsAnswered (barrier, release) old (release_by time (with_barrier barrier old) release)
+answers limit time old barrier releases.Hold fits = record { stand = refl; directory = refl; unit = refl; told = λ m from sequence. tells_none m from sequence [] tt; stray = omega arith }
+answers limit time old barrier releases.Stray fits = record { stand = refl; directory = refl; unit = refl; told = λ m from sequence. tells_none m from sequence [] tt; stray = omega arith }
+answers limit time old barrier (releases.Go nodes) fits = record { stand = refl; directory = refl; unit = refl; told = λ m from sequence. gos_told m from sequence time limit 0 nodes fits; stray = omega arith }
+
+arrive_answer : (machine : MachineParts) (time from : ℕ) (old : NodeState) → has_unit machine old ≡ true → ReleaseFits machine.nodes (arrive_of old.barrier from).1 →
+    IsAnswered (arrive_of old.barrier from) old (arrive_message_of machine time from old)
+unfolding arrive_message_of
+arrive_answer machine time from old unit fits = rw unit (answers machine.nodes time old (arrive_of old.barrier from).0 (arrive_of old.barrier from).1 fits)
+
+leave_answer : (machine : MachineParts) (time from : ℕ) (old : NodeState) → has_unit machine old ≡ true → ReleaseFits machine.nodes (leave_of old.barrier from).1 →
+    IsAnswered (leave_of old.barrier from) old (leave_message_of machine time from old)
+unfolding leave_message_of
+leave_answer machine time from old unit fits = rw unit (answers machine.nodes time old (leave_of old.barrier from).0 (leave_of old.barrier from).1 fits)
+
+unit_law : (machine : MachineParts) (node : NodeState) (key : Key) (msg : Msg) → IsNode machine node → is_for_unit msg.body ≡ true → has_unit machine node ≡ true → key.from < machine.nodes →
+    IsUnitMove (answer_to msg.body key.from node.barrier) node (react_to_message machine node key msg).0 (react_to_message machine node key msg).1
+unfolding react_to_message message_of
+unit_law machine node key msg is kind unit there = by msg.body kind
+  where
+    about : Body → Msg
+    about body = record { block = msg.block; body = body }
+
+    stamped : (body : Body) → IsAnswered (answer_to body key.from node.barrier) (counted_message key node) (message_by machine key.time key.from msg.block body (counted_message key node)) →
+        IsUnitMove (answer_to body key.from node.barrier) node (react_to_message machine node key (about body)).0 (react_to_message machine node key (about body)).1
+    stamped body done =
+        let handled = message_by machine key.time key.from msg.block body (counted_message key node) in
+        record { stand = done.stand; directory = done.directory; unit = done.unit; tells = done.told machine handled.node.number handled.node.counters.sent; stray = done.stray }
+
+    by : (body : Body) → is_for_unit body ≡ true → IsUnitMove (answer_to body key.from node.barrier) node (react_to_message machine node key (about body)).0 (react_to_message machine node key (about body)).1
+    by Arrive k = stamped Arrive (arrive_answer machine key.time key.from (counted_message key node) unit (arrive_fits machine node.barrier key.from is.barrier there).1)
+    by Leave k = stamped Leave (leave_answer machine key.time key.from (counted_message key node) unit (leave_fits machine node.barrier key.from is.barrier).1)
+    by GetS k = absurd cc
+    by (GetX had) k = absurd cc
+    by PutS k = absurd cc
+    by (PutX bytes) k = absurd cc
+    by (InvAck bytes) k = absurd cc
+    by Wake k = absurd cc
+    by (DataS bytes) k = absurd cc
+    by (DataX bytes) k = absurd cc
+    by Inv k = absurd cc
+    by Go k = absurd cc
+
+go_law : (machine : MachineParts) (node : NodeState) (key : Key) (block : ℕ) → node.mode ≡ InBarrier →
+    IsGoMove node (react_to_message machine node key (record { block = block; body = Go })).0 (react_to_message machine node key (record { block = block; body = Go })).1
+unfolding react_to_message message_of go_message_of
+go_law machine node key block at = rw at (record {
+  left = record { directory = refl; unit = refl; stray = refl };
+  stand = refl;
+  tells = record { arrives_is = refl; leaves_is = refl; gos_are = λ node. refl };
+})
+
+pub events_move_law : EventsMove
+events_move_law = record {
+  step = step_law;
+  copy = λ machine node key msg kind wants. (copy_law machine node key msg kind wants).0;
+  copy_left = λ machine node key msg kind wants. (copy_law machine node key msg kind wants).1;
+  row = row_law;
+  answer = unit_law;
+  go = go_law;
+}
