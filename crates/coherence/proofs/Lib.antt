@@ -18,3 +18,4 @@ pub mod RowSends
 pub mod MessageDeals
 pub mod RowDeals
 pub mod Moves
+pub mod Sends

@@ -64,9 +64,9 @@ not_for_home block msg back = by (msg.block == block)
     by true = rw back refl
     by false = refl
 
-none_home : (block about : ℕ) (sends : List Outgoing) → AllGoBack about sends → sent_home block (map (λ (o : Outgoing). o.msg) sends) ≡ []
-none_home block about [] back = refl
-none_home block about (first ∷ rest) back = rw (not_for_home block first.msg back.0.back) (none_home block about rest back.1)
+none_home : (block nodes about : ℕ) (sends : List Outgoing) → AllGoBack nodes about sends → sent_home block (map (λ (o : Outgoing). o.msg) sends) ≡ []
+none_home block nodes about [] back = refl
+none_home block nodes about (first ∷ rest) back = rw (not_for_home block first.msg back.0.back) (none_home block nodes about rest back.1)
 
 home_append : (block : ℕ) (one other : List Msg) → sent_home block one ≡ [] → sent_home block other ≡ [] → sent_home block (one ++ other) ≡ []
 home_append block [] other none_one none_other = none_other
@@ -355,12 +355,12 @@ module _ (machine : MachineParts) (block time : ℕ) (up rest : List Body) (old 
 
   -- ---- the directory and the barrier
 
-  acts : (about : ℕ) (node : NodeState) (sends : List Outgoing) (act : DirAct) → node.mode ≡ old.mode → node.cache ≡ old.cache → AllGoBack about sends →
+  acts : (nodes about : ℕ) (node : NodeState) (sends : List Outgoing) (act : DirAct) → node.mode ≡ old.mode → node.cache ≡ old.cache → AllGoBack nodes about sends →
       (msg : Msg) → not_from_home_of msg.body ≡ 1 → Dealt (body_if (is_from_home block msg) msg ++ rest) (act_by machine time (map (sent_at time) sends) node act)
-  acts about node sends act mode cache back msg other = by act
+  acts nodes about node sends act mode cache back msg other = by act
     where
       said_none : sent_home block (told (map (sent_at time) sends)) ≡ []
-      said_none = ap (λ (l : List Msg). sent_home block l) (told_outgoing time sends) ∙ none_home block about sends back
+      said_none = ap (λ (l : List Msg). sent_home block l) (told_outgoing time sends) ∙ none_home block nodes about sends back
 
       told_both : (one two : List Send) → told (one ++ two) ≡ told one ++ told two
       told_both [] two = refl
@@ -369,7 +369,7 @@ module _ (machine : MachineParts) (block time : ℕ) (up rest : List Body) (old 
       trap_none : (plan : TrapPlan) → sent_home block (told (trap_sends machine (busy_after machine plan time node.busy) plan)) ≡ []
       trap_none plan =
           ap (λ (l : List Msg). sent_home block l) (told_outgoing (busy_after machine plan time node.busy) (map (invalidation plan.block) (targets_of machine.nodes plan.targets)))
-          ∙ none_home block plan.block _ (calls_back plan.block (targets_of machine.nodes plan.targets))
+          ∙ none_home block machine.nodes plan.block _ (calls_back machine.nodes plan.block (targets_of machine.nodes plan.targets))
 
       by : (a : DirAct) → Dealt (body_if (is_from_home block msg) msg ++ rest) (act_by machine time (map (sent_at time) sends) node a)
       by Done = passes msg (act_by machine time (map (sent_at time) sends) node Done) other (ap (λ (m : Mode). wanted_in block m) mode) cache said_none
@@ -386,7 +386,7 @@ module _ (machine : MachineParts) (block time : ℕ) (up rest : List Body) (old 
   unfolding directory_message_of
   directs from msg other = elim (cases_Bool (home_of machine msg.block == old.number)) [
     | inl here ↦ rw here
-        (acts msg.block (record old { directory = with_block msg.block (row_of old.directory from msg).home old.directory }) (row_of old.directory from msg).sends (row_of old.directory from msg).act refl refl
+        (acts old.directory.machine.nodes msg.block (record old { directory = with_block msg.block (row_of old.directory from msg).home old.directory }) (row_of old.directory from msg).sends (row_of old.directory from msg).act refl refl
         (row_goes_back (place_of old.directory msg.block from) msg.body (block_of old.directory msg.block)) msg other)
     | inr away ↦ rw away (strays msg other)
   ]

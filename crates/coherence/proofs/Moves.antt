@@ -92,9 +92,9 @@ tells_none machine from sequence (first ∷ rest) others =
       gos_are = λ node. let a = later.gos_are node in let n = none.2 node first.to in omega (arith, a, n);
     }
 
-outgoing_others : (time about : ℕ) (sends : List Outgoing) → AllGoBack about sends → AreOthers (map (sent_at time) sends)
-outgoing_others time about [] back = tt
-outgoing_others time about (first ∷ rest) back = (back.0.other, outgoing_others time about rest back.1)
+outgoing_others : (time nodes about : ℕ) (sends : List Outgoing) → AllGoBack nodes about sends → AreOthers (map (sent_at time) sends)
+outgoing_others time nodes about [] back = tt
+outgoing_others time nodes about (first ∷ rest) back = (back.0.other, outgoing_others time nodes about rest back.1)
 
 both_others : (one two : List Send) → AreOthers one → AreOthers two → AreOthers (one ++ two)
 both_others [] two is_one is_two = is_two
@@ -320,7 +320,7 @@ row_still machine time from msg old = elim (cases_Bool (home_of machine msg.bloc
 ]
   where
     sends : AreOthers (map (sent_at time) (row_of old.directory from msg).sends)
-    sends = outgoing_others time msg.block (row_of old.directory from msg).sends (row_goes_back (place_of old.directory msg.block from) msg.body (block_of old.directory msg.block))
+    sends = outgoing_others time old.directory.machine.nodes msg.block (row_of old.directory from msg).sends (row_goes_back (place_of old.directory msg.block from) msg.body (block_of old.directory msg.block))
 
     acts : (act : DirAct) → IsStill old (act_by machine time (map (sent_at time) (row_of old.directory from msg).sends) (record old { directory = with_block msg.block (row_of old.directory from msg).home old.directory }) act)
     acts Done = record { stand = refl; unit = refl; others = sends }
@@ -329,7 +329,7 @@ row_still machine time from msg old = elim (cases_Bool (home_of machine msg.bloc
       stand = refl;
       unit = refl;
       others = both_others (map (sent_at time) (row_of old.directory from msg).sends) _ sends
-          (outgoing_others (busy_after machine plan time old.busy) plan.block (map (invalidation plan.block) (targets_of machine.nodes plan.targets)) (calls_back plan.block (targets_of machine.nodes plan.targets)));
+          (outgoing_others (busy_after machine plan time old.busy) machine.nodes plan.block (map (invalidation plan.block) (targets_of machine.nodes plan.targets)) (calls_back machine.nodes plan.block (targets_of machine.nodes plan.targets)));
     }
 
 copy_law : (machine : MachineParts) (node : NodeState) (key : Key) (msg : Msg) → comes_from_home msg.body ≡ true → IsWantedIn node.mode msg →

@@ -11,3 +11,4 @@ pub mod Values
 pub mod Deals
 pub mod RowDeals
 pub mod Moves
+pub mod Sends

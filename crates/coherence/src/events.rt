@@ -1,6 +1,7 @@
 ghost use Rattle.coherence.specs.Deals.{DealsAreSteps, StepsDeal, MessagesDeal};
 ghost use Rattle.coherence.specs.Moves.{EventsMove};
 ghost use Rattle.coherence.specs.RowDeals.{RowsDeal};
+ghost use Rattle.coherence.specs.Sends.{SendsAreRight};
 
 /// What a node does to a block by some deals is as many steps of that block.
 pub fn deals_are_steps()
@@ -25,4 +26,10 @@ pub fn rows_deal()
 /// Each event of a node moves it at the barrier as a move of the barrier by itself does.
 pub fn events_move()
     ensures { EventsMove }
+{}
+
+/// Each message of an event goes to the home of its block or comes from it, and leaves at the time of the event, but for
+/// a trap's calls.
+pub fn sends_are_right()
+    ensures { SendsAreRight }
 {}

@@ -12,4 +12,6 @@ pub use block::{
     lines_keep_order, meetings_are_orderly, nothing_is_stray, one_writer, rows_are_built,
     rows_are_steps, runs_are_coherent, start_is_coherent, steps_keep_facts, values_are_kept,
 };
-pub use events::{deals_are_steps, events_move, messages_deal, rows_deal, steps_deal};
+pub use events::{
+    deals_are_steps, events_move, messages_deal, rows_deal, sends_are_right, steps_deal,
+};
