@@ -22,8 +22,8 @@ Without, what is measured: a whole call, from its start to the end of its report
   run: misses                        8 nodes that write the same blocks in turn, so that nearly every access is a miss,
                                      which the home serves by a trap
   run: sharing                       16 nodes that read 16 blocks of 128 bytes and write each fourth of them
-  run: readers on 2, 256 nodes       nodes that read blocks and check them in, on a mesh: what an event costs on few nodes
-                                     and on many
+  run: readers on 2, 256 nodes       nodes that read a block of their own and one of their neighbour's and check them in,
+                                     again and again, on a mesh: what an event costs on few nodes and on many
   load 92, load 93                   the generated machines of these numbers: all to all on 32 nodes, and a stencil
 
 Each is called RUNS times, and the best call counts, since a single call takes so little time that what else the machine
@@ -116,7 +116,9 @@ def check_in_of(block, size):
 
 
 SHARING = [*(load_of(block, 128) for block in range(BLOCKS)), *(store_of(block, 128) for block in range(0, BLOCKS, 4))]
-READERS = [word for block in range(BLOCKS) for word in (load_of(block, 32), check_in_of(block, 32))]
+# The address of block i, at node i: x6 = x10 * 32, x7 = x7 + x6. The next block's home is the next node.
+BEGIN_OWN = [*BEGIN_SHARED, 5 << 20 | 10 << 15 | 1 << 12 | 6 << 7 | 0x13, 6 << 20 | 7 << 15 | 7 << 7 | 0x33]
+READERS = [word for block in (0, 1) for word in (load_of(block, 32), check_in_of(block, 32))] * 8
 
 
 def endless(begin, body):
@@ -168,7 +170,7 @@ def run_case(name, nodes, budget, words, **numbers):
 
 def readers_case(nodes, budget, width):
     name = f"run: readers on {nodes} nodes"
-    words = endless(BEGIN_SHARED, READERS)
+    words = endless(BEGIN_OWN, READERS)
     return run_case(name, nodes, budget, words, version=2, private_bytes=4096, hop=10, width=width)
 
 
@@ -180,8 +182,8 @@ CASES = [
     run_case("run: 8 nodes", 8, 125000, endless(BEGIN, ARITHMETIC)),
     run_case("run: misses", 8, 2000000, endless(BEGIN_SHARED, MISSES)),
     run_case("run: sharing", 16, 1000000, endless(BEGIN_SHARED, SHARING), block_bytes=128),
-    readers_case(2, 10000000, 2),
-    readers_case(256, 80000, 16),
+    readers_case(2, 15000000, 2),
+    readers_case(256, 120000, 16),
     Case("load 92", ["load", "92"], "finished"),
     Case("load 93", ["load", "93"], "finished"),
 ]
