@@ -13,7 +13,7 @@ pub fn steps_deal()
     ensures { StepsDeal }
 {}
 
-/// So does a message.
+/// So does a message, where Data is asked for.
 pub fn messages_deal()
     ensures { MessagesDeal }
 {}
@@ -23,13 +23,14 @@ pub fn rows_deal()
     ensures { RowsDeal }
 {}
 
-/// Each event of a node moves it at the barrier as a move of the barrier by itself does.
+/// What each event of a node does at the barrier: where its processor stands after it, whom it tells, and what the unit
+/// answers.
 pub fn events_move()
     ensures { EventsMove }
 {}
 
-/// Each message of an event goes to the home of its block or comes from it, and leaves at the time of the event, but for
-/// a trap's calls.
+/// Each message of an event goes to the home of its block or comes from it, or goes to the barrier unit or comes from it,
+/// and leaves at the time of the event, but for a trap's calls.
 pub fn sends_are_right()
     ensures { SendsAreRight }
 {}

@@ -1,8 +1,8 @@
 //! Coherence of shared memory, block by block: whatever the order of events, no message is stray, a copy that can be
 //! written is the only copy, and each copy has what the last store left. It is proved of a machine of one block, whose
-//! home does what the directory does. Each event of a node is tied to it: what it does to a block is some steps of that
-//! block, and at the block's home it does what a row of the directory says. The messages under way in a world are not
-//! tied to it yet.
+//! home does what the directory does. Each event of a node is tied to it, where Data that comes is asked for: what it does
+//! to a block is some steps of that block, and at the block's home it does what a row of the directory says. The messages
+//! under way in a world are not tied to it yet.
 #![tactic(auto)]
 
 mod block;
