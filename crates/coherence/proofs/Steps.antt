@@ -154,7 +154,7 @@ start_coherent view start = record {
     empty : (node : ℕ) → NodeFacts Idle node (asks_at_home node Idle []) (part None None [] [])
     empty node = record { led = tt; one_place = refl; no_token = λ some. refl; counts = (refl, refl, refl); goes = refl; comes = refl }
 
-steps_keep : (view : View) (list : List Step) → IsCoherent view → AreEnabled view list → IsCoherent (steps_of list view)
+pub steps_keep : (view : View) (list : List Step) → IsCoherent view → AreEnabled view list → IsCoherent (steps_of list view)
 steps_keep view [] is may = is
 steps_keep view (step ∷ list) is may = steps_keep (step_of step view) list (step_keeps view step is may.0) may.1
 

@@ -12,3 +12,4 @@ pub mod Deals
 pub mod RowDeals
 pub mod Moves
 pub mod Sends
+pub mod Worlds
