@@ -19,3 +19,4 @@ pub mod MessageDeals
 pub mod RowDeals
 pub mod Moves
 pub mod Sends
+pub mod Unmarked
