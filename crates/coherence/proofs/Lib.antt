@@ -17,5 +17,7 @@ pub mod StepDeals
 pub mod RowSends
 pub mod MessageDeals
 pub mod RowDeals
+pub mod Sent
+pub mod StepWalk
 pub mod Moves
 pub mod Sends
