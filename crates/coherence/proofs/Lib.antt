@@ -17,6 +17,8 @@ pub mod StepDeals
 pub mod RowSends
 pub mod MessageDeals
 pub mod RowDeals
+pub mod Sent
+pub mod StepWalk
 pub mod Moves
 pub mod Sends
 pub mod Unmarked

@@ -1,19 +1,12 @@
 -- What an event of a node does at the barrier.
-use Rattle.std.proofs.Common.{◌≡◌, ℕ, ◌+◌, ◌<◌, inl, inr, Bool, true, false, cond, List, [], ◌∷◌, ◌++◌, map, Option, Some, None, Result, Ok, Err, refl, ap, sym, ◌∙◌, arith}
-use Rattle.std.specs.Prelude.{⊤, ◌==◌}
+use Rattle.std.proofs.Common.{◌≡◌, ℕ, ◌+◌, ◌<◌, inl, inr, Bool, true, false, List, [], ◌∷◌, ◌++◌, map, Option, Some, None, refl, ap, sym, ◌∙◌, arith}
+use Rattle.std.specs.Prelude.{◌==◌}
 use Rattle.std.proofs.lemmas.Bool.{cases_Bool, ne_eqb, eqb-true}
 use Rattle.wt_params.specs.declared.parts.MachineParts.{MachineParts}
-use Rattle.wt_params.specs.Machine.{shared_block, home_of}
+use Rattle.wt_params.specs.Machine.{home_of}
 use Rattle.dir_list.specs.Lists.{AreRising}
-use Rattle.rv_decode.specs.declared.instr.CicoOp.{CicoOp}
-use Rattle.rv_decode.specs.declared.instr.LoadOp.{LoadOp}
-use Rattle.rv_decode.specs.declared.instr.StoreOp.{StoreOp}
 use Rattle.rv_exec.specs.declared.effect.Effect.{Effect}
 use Rattle.rv_exec.specs.declared.effect.Effect.TheVariants.{Next, Load, Store, Cico, Call, Break, BadTarget, Illegal}
-use Rattle.rv_exec.specs.Widths.{load_width_of, store_width_of}
-use Rattle.priv_mem.specs.declared.fault.MemFault.{MemFault}
-use Rattle.priv_mem.specs.declared.fault.MemFault.TheVariants.{Misaligned, Outside}
-use Rattle.priv_mem.specs.Memory.{load_of, store_of}
 use Rattle.wt_proto.specs.declared.key.Key.{Key}
 use Rattle.wt_proto.specs.declared.message.Body.{Body}
 use Rattle.wt_proto.specs.declared.message.Body.TheVariants.{GetS, GetX, PutS, PutX, DataS, DataX, Inv, InvAck, Wake, Arrive, Leave, Go}
@@ -22,13 +15,8 @@ use Rattle.wt_proto.specs.declared.message.Outgoing.{Outgoing}
 use Rattle.wt_proto.specs.declared.mode.Mode.{Mode}
 use Rattle.wt_proto.specs.declared.mode.Mode.TheVariants.{Running, Waiting, InBarrier}
 use Rattle.wt_proto.specs.NodeSets.{has_node}
-use Rattle.block_tags.specs.declared.tag.Tag.{Tag}
-use Rattle.block_tags.specs.declared.tag.Tag.TheVariants.{Invalid, ReadOnly, Writable}
-use Rattle.cico_ops.specs.declared.annotation.CicoAction.{CicoAction}
-use Rattle.cico_ops.specs.declared.annotation.CicoAction.TheVariants as actions
-use Rattle.cico_ops.specs.Annotations.{action_of}
 use Rattle.target_cache.specs.declared.line.Line.{Line}
-use Rattle.target_cache.specs.Cached.{line_of, tag_of, read_of, replaced_of, install_of}
+use Rattle.target_cache.specs.Cached.{line_of, replaced_of, install_of}
 use Rattle.dir1sw.specs.declared.home.DirAct.{DirAct}
 use Rattle.dir1sw.specs.declared.home.DirAct.TheVariants.{Done, Trap, Stray}
 use Rattle.dir1sw.specs.Homes.{row_of, place_of, block_of, with_block}
@@ -38,13 +26,9 @@ use Rattle.target_barrier.specs.Barrier.{Barrier, arrive_of, leave_of}
 use Rattle.trap_handler.specs.Trap.{invalidation, targets_of, busy_after}
 use Rattle.node.specs.declared.state.NodeState.{NodeState}
 use Rattle.node.specs.declared.state.Send.{Send}
-use Rattle.node.specs.State.{register, in_mode, with_cache, step_time, next_key}
-use Rattle.node.specs.Handled.{Handled, sent_at, gives_back, message_to}
-use Rattle.node.specs.SharedAccess.{offset_of, hit_load_by, shared_load_of, hit_store_by, shared_store_of}
-use Rattle.node.specs.PrivateAccess.{load_by, load_from, store_by, store_to}
-use Rattle.node.specs.Annotation.{annotate_by, annotate_block, annotate_of}
-use Rattle.node.specs.Call.{barrier_call_of, exit_of, call_of}
-use Rattle.node.specs.Processor.{fetch_of, meaning_in, effect_by, execute_of, step_by, step_of}
+use Rattle.node.specs.State.{in_mode, with_cache, step_time, next_key}
+use Rattle.node.specs.Handled.{Handled, sent_at, gives_back}
+use Rattle.node.specs.Processor.{step_of}
 use Rattle.node.specs.DirectoryMessage.{act_by, directory_message_of}
 use Rattle.node.specs.DataMessage.{effect_at, resumed, replacing, installed, data_message_of}
 use Rattle.node.specs.InvMessage.{inv_by, inv_message_of}
@@ -54,43 +38,13 @@ use Rattle.node.specs.Sound.{IsNode}
 use Rattle.node.proofs.Barriers.{ReleaseFits, arrive_fits, leave_fits}
 use Rattle.coherence.specs.Deals.{wanted_in, IsWantedIn}
 use Rattle.coherence.specs.RowDeals.{is_for_directory}
-use Rattle.coherence.specs.Meetings.{once, waits_once, gone_once, told_of}
+use Rattle.coherence.specs.Meetings.{once, told_of}
 use Rattle.coherence.specs.Meetings.Stand.{Away}
-use Rattle.coherence.specs.Moves.{stand_in, arrive_in, leave_in, go_in, Tells, IsLeft, IsStepMove, IsNoMove, is_stray_release, IsUnitMove, IsGoMove, answer_to, is_for_unit, comes_from_home, EventsMove}
-use Rattle.coherence.proofs.RowSends.{is_of_barrier, AllGoBack, calls_back, row_goes_back}
+use Rattle.coherence.specs.Moves.{stand_in, Tells, IsLeft, IsStepMove, IsNoMove, is_stray_release, IsUnitMove, IsGoMove, answer_to, is_for_unit, comes_from_home, EventsMove}
+use Rattle.coherence.proofs.RowSends.{AllGoBack, calls_back, row_goes_back}
+use Rattle.coherence.proofs.Sent.{AreOthers, plain_others, back_plain, tells_none}
+use Rattle.coherence.proofs.StepWalk.{walked}
 use Rattle.coherence.proofs.MessageDeals.{waits_for}
-
--- ---- messages that aren't about the barrier
-
--- None of some sends is about the barrier.
-abbrev pub AreOthers : List Send → Type 0
-AreOthers [] = ⊤
-AreOthers (first ∷ rest) = (is_of_barrier first.msg.body ≡ false) × AreOthers rest
-
-none_told : (body : Body) → is_of_barrier body ≡ false → (arrive_in body ≡ 0) × (leave_in body ≡ 0) × ((node to : ℕ) → go_in node to body ≡ 0)
-none_told GetS is = (refl, refl, λ node to. refl)
-none_told (GetX had) is = (refl, refl, λ node to. refl)
-none_told PutS is = (refl, refl, λ node to. refl)
-none_told (PutX bytes) is = (refl, refl, λ node to. refl)
-none_told (DataS bytes) is = (refl, refl, λ node to. refl)
-none_told (DataX bytes) is = (refl, refl, λ node to. refl)
-none_told Inv is = (refl, refl, λ node to. refl)
-none_told (InvAck bytes) is = (refl, refl, λ node to. refl)
-none_told Wake is = (refl, refl, λ node to. refl)
-none_told Arrive is = absurd cc
-none_told Leave is = absurd cc
-none_told Go is = absurd cc
-
-tells_none : (machine : MachineParts) (from sequence : ℕ) (sends : List Send) → AreOthers sends → Tells 0 0 [] (stamped_from machine from sequence sends)
-tells_none machine from sequence [] others = record { arrives_is = refl; leaves_is = refl; gos_are = λ node. refl }
-tells_none machine from sequence (first ∷ rest) others =
-    let later = tells_none machine from (sequence + 1) rest others.1 in
-    let none = none_told first.msg.body others.0 in
-    record {
-      arrives_is = let a = later.arrives_is in let n = none.0 in omega (arith, a, n);
-      leaves_is = let a = later.leaves_is in let n = none.1 in omega (arith, a, n);
-      gos_are = λ node. let a = later.gos_are node in let n = none.2 node first.to in omega (arith, a, n);
-    }
 
 outgoing_others : (time nodes about : ℕ) (sends : List Outgoing) → AllGoBack nodes about sends → AreOthers (map (sent_at time) sends)
 outgoing_others time nodes about [] back = tt
@@ -100,158 +54,20 @@ both_others : (one two : List Send) → AreOthers one → AreOthers two → AreO
 both_others [] two is_one is_two = is_two
 both_others (first ∷ rest) two is_one is_two = (is_one.0, both_others rest two is_one.1 is_two)
 
-back_others : (machine : MachineParts) (time : ℕ) (line : Option Line) → AreOthers (gives_back machine time line)
-back_others machine time None = tt
-back_others machine time (Some line) = (by line.writable, tt)
-  where
-    by : (writable : Bool) → is_of_barrier (cond writable (PutX line.bytes) PutS) ≡ false
-    by true = refl
-    by false = refl
-
-get_other : (exclusive : Bool) → is_of_barrier (cond exclusive (GetX false) GetS) ≡ false
-get_other true = refl
-get_other false = refl
-
 -- ---- a step
-
--- The rest of a node stays, and nothing is told but by who comes to the barrier or leaves.
-pub record IsStep (old : NodeState) (handled : Handled) : Type 0 where
-  pub left : IsLeft old handled.node
-  pub told : (machine : MachineParts) (from sequence : ℕ) →
-      Tells (waits_once (stand_in handled.node.mode)) (gone_once (stand_in handled.node.mode)) [] (stamped_from machine from sequence handled.sends)
-
-one_told : (send : Send) (arrives leaves : ℕ) (machine : MachineParts) (from sequence : ℕ) → arrive_in send.msg.body ≡ arrives → leave_in send.msg.body ≡ leaves → ((node to : ℕ) → go_in node to send.msg.body ≡ 0) →
-    Tells arrives leaves [] (stamped_from machine from sequence (send ∷ []))
-one_told send arrives leaves machine from sequence a l g = record {
-  arrives_is = omega (arith, a);
-  leaves_is = omega (arith, l);
-  gos_are = λ node. let n = g node send.to in omega (arith, n);
-}
-
-module _ (machine : MachineParts) (time : ℕ) (several : (machine.nodes == 1) ≡ false) (old : NodeState) (running : old.mode ≡ Running) where
-  abbrev Moves : Handled → Type 0
-  Moves handled = IsStep old handled
-
-  -- who isn't at the barrier, and sends nothing about it
-  away : (handled : Handled) → IsLeft old handled.node → stand_in handled.node.mode ≡ Away → AreOthers handled.sends → Moves handled
-  away handled left stand others = record {
-    left = left;
-    told = λ m from sequence. rw stand (tells_none m from sequence handled.sends others);
-  }
-
-  stays : (handled : Handled) → handled.node.directory ≡ old.directory → handled.node.barrier ≡ old.barrier → handled.node.counters.stray ≡ old.counters.stray → handled.node.mode ≡ old.mode → AreOthers handled.sends → Moves handled
-  stays handled directory unit stray mode others =
-      away handled (record { directory = directory; unit = unit; stray = stray }) (ap stand_in (mode ∙ running)) others
-
-  stops : (handled : Handled) → handled.node.directory ≡ old.directory → handled.node.barrier ≡ old.barrier → handled.node.counters.stray ≡ old.counters.stray → stand_in handled.node.mode ≡ Away → AreOthers handled.sends → Moves handled
-  stops handled directory unit stray mode others = away handled (record { directory = directory; unit = unit; stray = stray }) mode others
-
-  shared_loads : (op : LoadOp) (rd address : ℕ) (found : Option ℕ) → Moves (shared_load_of machine time op rd address old found)
-  shared_loads op rd address None = stops _ refl refl refl refl tt
-  shared_loads op rd address (Some target) = by (read_of old.cache target (offset_of machine address) (load_width_of op))
-    where
-      by : (number : Option ℕ) → Moves (hit_load_by machine time op rd address target old number)
-      by (Some number) = stays _ refl refl refl refl tt
-      by None = stops _ refl refl refl refl (refl, tt)
-
-  loads_from : (op : LoadOp) (rd address : ℕ) → Moves (load_from machine time op rd address old)
-  unfolding load_from
-  loads_from op rd address = by (load_of old.private address (load_width_of op))
-    where
-      by : (answer : Result ℕ MemFault) → Moves (load_by machine time op rd address old answer)
-      by (Ok number) = stays _ refl refl refl refl tt
-      by (Err Misaligned) = stops _ refl refl refl refl tt
-      by (Err Outside) = shared_loads op rd address (shared_block machine address)
-
-  shared_stores : (op : StoreOp) (address value : ℕ) (found : Option ℕ) → Moves (shared_store_of machine time op address value old found)
-  shared_stores op address value None = stops _ refl refl refl refl tt
-  shared_stores op address value (Some target) = by (tag_of old.cache target)
-    where
-      by : (tag : Tag) → Moves (hit_store_by machine time op address value target old tag)
-      by Writable = stays _ refl refl refl refl tt
-      by ReadOnly = stops _ refl refl refl refl (refl, tt)
-      by Invalid = stops _ refl refl refl refl (refl, tt)
-
-  stores_to : (op : StoreOp) (address value : ℕ) → Moves (store_to machine time op address value old)
-  unfolding store_to
-  stores_to op address value = by (store_of old.private address (store_width_of op) value)
-    where
-      by : (answer : Result (List ℕ) MemFault) → Moves (store_by machine time op address value old answer)
-      by (Ok memory) = stays _ refl refl refl refl tt
-      by (Err Misaligned) = stops _ refl refl refl refl tt
-      by (Err Outside) = shared_stores op address value (shared_block machine address)
-
-  annotates_by : (target : ℕ) (action : CicoAction) → Moves (annotate_by machine time target old action)
-  annotates_by target actions.Nothing = stays _ refl refl refl refl tt
-  annotates_by target actions.GetS = stops _ refl refl refl refl (refl, tt)
-  annotates_by target (actions.GetX true) = stops _ refl refl refl refl (refl, tt)
-  annotates_by target (actions.GetX false) = stops _ refl refl refl refl (refl, tt)
-  annotates_by target actions.PutS = stays _ refl refl refl refl (back_others machine time (line_of old.cache target))
-  annotates_by target actions.PutX = stays _ refl refl refl refl (back_others machine time (line_of old.cache target))
-
-  annotates_at : (op : CicoOp) (address : ℕ) → Moves (annotate_of machine time op address old)
-  unfolding annotate_of
-  annotates_at op address = by (shared_block machine address)
-    where
-      by : (found : Option ℕ) → Moves (annotate_block machine time op old found)
-      by None = stays _ refl refl refl refl tt
-      by (Some target) = annotates_by target (action_of op (tag_of old.cache target))
-
-  barriers : Moves (barrier_call_of machine time old)
-  barriers = rw several (record {
-    left = record { directory = refl; unit = refl; stray = refl };
-    told = λ m from sequence. one_told (message_to time 0 0 Arrive) 1 0 m from sequence refl refl (λ node to. refl);
-  })
-
-  exits : (code : ℕ) → Moves (exit_of machine time code old)
-  exits code = rw several (record {
-    left = record { directory = refl; unit = refl; stray = refl };
-    told = λ m from sequence. one_told (message_to time 0 0 Leave) 0 1 m from sequence refl refl (λ node to. refl);
-  })
-
-  either : (test : Bool) (one other : Handled) → Moves one → Moves other → Moves (cond test one other)
-  either true one other is_one is_other = is_one
-  either false one other is_one is_other = is_other
-
-  calls : Moves (call_of machine time old)
-  unfolding call_of
-  calls =
-      let call = register old 17 in
-      either (call == 1) _ _ (stays _ refl refl refl refl tt)
-      (either (call == 2) _ _ (stays _ refl refl refl refl tt)
-      (either (call == 3) _ _ (stays _ refl refl refl refl tt)
-      (either (call == 4) _ _ (stays _ refl refl refl refl tt)
-      (either (call == 5) _ _ barriers
-      (either (call == 93) _ _ (exits (register old 10)) (stops _ refl refl refl refl tt))))))
-
-  does : (word : ℕ) (registers : List ℕ) (effect : Effect) → Moves (effect_by machine time word old registers effect)
-  does word registers (Next pc cost) = stays _ refl refl refl refl tt
-  does word registers (Load op rd address) = loads_from op rd address
-  does word registers (Store op address value) = stores_to op address value
-  does word registers (Cico op address) = annotates_at op address
-  does word registers Call = calls
-  does word registers Break = stops _ refl refl refl refl tt
-  does word registers (BadTarget target) = stops _ refl refl refl refl tt
-  does word registers Illegal = stops _ refl refl refl refl tt
-
-  pub step_moves : Moves (step_of machine time old)
-  unfolding execute_of
-  step_moves = by (fetch_of machine old)
-    where
-      by : (found : Option ℕ) → Moves (step_by machine time old found)
-      by None = stops _ refl refl refl refl tt
-      by (Some word) = does word (meaning_in machine word old).0 (meaning_in machine word old).1
 
 step_law : (machine : MachineParts) (node : NodeState) → (machine.nodes == 1) ≡ false → node.mode ≡ Running →
     IsStepMove node (react_to_step machine node).0 (react_to_step machine node).1
 unfolding react_to_step
 step_law machine node several running =
-    let moved = step_moves machine (step_time node) several (counted_step (next_key machine node) node) running in
     let handled = step_of machine (step_time node) (counted_step (next_key machine node) node) in
-    record {
-      left = record { directory = moved.left.directory; unit = moved.left.unit; stray = moved.left.stray };
-      tells = moved.told machine handled.node.number handled.node.counters.sent;
-    }
+    record { tells = (walked machine node).told several running machine handled.node.number handled.node.counters.sent }
+
+step_left_law : (machine : MachineParts) (node : NodeState) → IsLeft node (react_to_step machine node).0
+unfolding react_to_step
+step_left_law machine node =
+    let left = (walked machine node).left in
+    record { directory = left.directory; unit = left.unit; stray = left.stray }
 
 -- ---- a message that isn't about the barrier
 
@@ -299,7 +115,7 @@ data_still machine time line old wants =
       record {
         stand = ap stand_in is.0 ∙ sym (waiting_stand old.mode line.block line.writable waits.0);
         unit = is.1 ∙ left.unit;
-        others = back_others machine time (replaced_of line old.cache);
+        others = plain_others machine old.number time (gives_back machine time (replaced_of line old.cache)) (back_plain machine old.number time (replaced_of line old.cache));
       },
       record { directory = is.2 ∙ left.directory; unit = is.1 ∙ left.unit; stray = is.3 ∙ left.stray },
     )
@@ -480,6 +296,7 @@ go_law machine node key block at = rw at (record {
 pub events_move_law : EventsMove
 events_move_law = record {
   step = step_law;
+  step_left = λ machine node running. step_left_law machine node;
   copy = λ machine node key msg kind wants. (copy_law machine node key msg kind wants).0;
   copy_left = λ machine node key msg kind wants. (copy_law machine node key msg kind wants).1;
   row = row_law;

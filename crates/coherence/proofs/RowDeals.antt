@@ -1,5 +1,6 @@
 -- A message at the home of its block does what the row of the directory's tables says.
 use Rattle.std.proofs.Common.{◌≡◌, ◌≢◌, ℕ, ◌+◌, ◌/◌, ◌%◌, ◌<◌, ◌≤◌, true, List, [], ◌∷◌, ◌++◌, length, map, refl, ap, sym, ◌∙◌, subst, arith}
+use Rattle.std.specs.List.{AllByRecursion}
 use Rattle.std.proofs.lemmas.Bool.{eq-eqb}
 use Rattle.std.proofs.lemmas.List.{append-nil, get_or-set_same, get_or-set_other}
 use Rattle.wt_params.specs.declared.parts.MachineParts.{MachineParts}
@@ -8,6 +9,7 @@ use Rattle.wt_proto.specs.declared.message.Body.{Body}
 use Rattle.wt_proto.specs.declared.message.Body.TheVariants.{GetS, GetX, PutS, PutX, DataS, DataX, Inv, InvAck, Wake, Arrive, Leave, Go}
 use Rattle.wt_proto.specs.declared.message.Msg.{Msg}
 use Rattle.wt_proto.specs.declared.message.Outgoing.{Outgoing}
+use Rattle.wt_proto.specs.declared.message.Stamped.{Stamped}
 use Rattle.dir1sw.specs.declared.home.DirAct.{DirAct}
 use Rattle.dir1sw.specs.declared.home.DirAct.TheVariants.{Done, Trap, Stray}
 use Rattle.dir1sw.specs.Homes.{count_of, row_of, place_of, block_of, with_block, fresh_block}
@@ -20,7 +22,9 @@ use Rattle.node.specs.React.{stamped_from, message_by, message_of, react_to_mess
 use Rattle.node.proofs.TrapRows.{silent_trap}
 use Rattle.coherence.specs.Entries.{called_by, all_sends, is_stray}
 use Rattle.coherence.specs.Meetings.{once}
+use Rattle.coherence.specs.Pipes.{not_to_home_of}
 use Rattle.coherence.specs.RowDeals.{is_for_directory, outgoing, IsRowDone, RowsDeal}
+use Rattle.coherence.proofs.RowSends.{AllGoBack, all_go_back}
 
 -- sends without their times
 abbrev pub unsent : List Send → List Outgoing
@@ -38,6 +42,11 @@ unsent_both : (one other : List Send) → unsent (one ++ other) ≡ unsent one +
 unsent_both [] other = refl
 unsent_both (first ∷ rest) other = ap (λ (l : List Outgoing). record { to = first.to; msg = first.msg } ∷ l) (unsent_both rest other)
 
+-- messages of a row, with their stamps
+about_block : (nodes block : ℕ) (sends : List Stamped) → AllGoBack nodes block (outgoing sends) → AllByRecursion (λ (send : Stamped). (send.msg.block ≡ block) × (not_to_home_of send.msg.body ≡ 1)) sends
+about_block nodes block [] back = tt
+about_block nodes block (first ∷ rest) back = ((back.0.block, back.0.back), about_block nodes block rest back.1)
+
 place_inside : (machine : MachineParts) (block number : ℕ) → IsMachine machine → block < machine.blocks → home_of machine block ≡ number → block / machine.nodes < count_of machine number
 place_inside machine block number is exists home = grind arith
 
@@ -51,6 +60,8 @@ pub record IsDone (machine : MachineParts) (from : ℕ) (msg : Msg) (old : NodeS
   pub others : (other : ℕ) → home_of machine other ≡ old.number → (other ≢ msg.block) → block_of handled.node.directory other ≡ block_of old.directory other
   pub sent : unsent handled.sends ≡ all_sends (place_of old.directory msg.block from) (row_of old.directory from msg)
   pub stray : handled.node.counters.stray ≡ old.counters.stray + once (is_stray (row_of old.directory from msg).act)
+  pub mode : handled.node.mode ≡ old.mode
+  pub cache : handled.node.cache ≡ old.cache
 
 module _ (machine : MachineParts) (time from : ℕ) (msg : Msg) (old : NodeState) (is : IsMachine machine) (machine_is : old.directory.machine ≡ machine) (count : length old.directory.blocks ≡ count_of machine old.number)
     (exists : msg.block < machine.blocks) (home : home_of machine msg.block ≡ old.number) where
@@ -74,12 +85,16 @@ module _ (machine : MachineParts) (time from : ℕ) (msg : Msg) (old : NodeState
     others = beside;
     sent = unsent_at time (row_of old.directory from msg).sends ∙ sym (ap (λ (a : DirAct). (row_of old.directory from msg).sends ++ called_by old.directory.machine.nodes msg.block a) at ∙ append-nil (row_of old.directory from msg).sends);
     stray = rw at (omega arith);
+    mode = refl;
+    cache = refl;
   }
   acts Stray at = record {
     home = kept;
     others = beside;
     sent = unsent_at time (row_of old.directory from msg).sends ∙ sym (ap (λ (a : DirAct). (row_of old.directory from msg).sends ++ called_by old.directory.machine.nodes msg.block a) at ∙ append-nil (row_of old.directory from msg).sends);
     stray = rw at (omega arith);
+    mode = refl;
+    cache = refl;
   }
   acts (Trap plan) at = record {
     home = kept;
@@ -92,6 +107,8 @@ module _ (machine : MachineParts) (time from : ℕ) (msg : Msg) (old : NodeState
         ∙ ap (λ (n : ℕ). map (invalidation msg.block) (targets_of n plan.targets)) (sym nodes_is))
         ∙ sym (ap (λ (a : DirAct). (row_of old.directory from msg).sends ++ called_by old.directory.machine.nodes msg.block a) at);
     stray = rw at (omega arith);
+    mode = refl;
+    cache = refl;
   }
 
   pub row_done : IsDone machine from msg old (directory_message_of machine time from msg old)
@@ -109,11 +126,17 @@ rows_deal_law machine node key msg is kind exists home = by msg.body kind
         IsRowDone machine node key.from (about body) (react_to_message machine node key (about body)).0 (react_to_message machine node key (about body)).1
     stamped body done =
         let handled = message_by machine key.time key.from msg.block body (counted_message key node) in
+        let place = place_of node.directory msg.block key.from in
+        let sent = stamped_unsent machine handled.node.number handled.node.counters.sent handled.sends ∙ done.sent in
         record {
           home = done.home;
           others = done.others;
-          sent = stamped_unsent machine handled.node.number handled.node.counters.sent handled.sends ∙ done.sent;
+          sent = sent;
+          about = about_block place.nodes msg.block (react_to_message machine node key (about body)).1
+              (subst (λ (l : List Outgoing). AllGoBack place.nodes msg.block l) (sym sent) (all_go_back place body (block_of node.directory msg.block)));
           stray = done.stray;
+          mode = done.mode;
+          cache = done.cache;
         }
 
     done : (body : Body) → IsDone machine key.from (about body) (counted_message key node) (directory_message_of machine key.time key.from (about body) (counted_message key node))

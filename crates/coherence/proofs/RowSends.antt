@@ -12,11 +12,13 @@ use Rattle.wt_proto.specs.declared.directory.Request.{Request}
 use Rattle.wt_proto.specs.declared.message.Body.{Body}
 use Rattle.wt_proto.specs.declared.message.Body.TheVariants.{GetS, GetX, PutS, PutX, DataS, DataX, Inv, InvAck, Wake, Arrive, Leave, Go}
 use Rattle.wt_proto.specs.declared.message.Outgoing.{Outgoing}
-use Rattle.trap_handler.specs.Trap.{invalidation}
-use Rattle.dir1sw.specs.declared.home.DirAct.TheVariants.{Done}
+use Rattle.trap_handler.specs.Trap.{invalidation, targets_of}
+use Rattle.dir1sw.specs.declared.home.DirAct.{DirAct}
+use Rattle.dir1sw.specs.declared.home.DirAct.TheVariants.{Done, Trap, Stray}
 use Rattle.dir1sw.specs.declared.home.HomeBlock.{HomeBlock}
 use Rattle.dir1sw.specs.declared.home.Place.{Place}
 use Rattle.dir1sw.specs.Table.{Row, quiet, grant_body, granted_to, answer_of, invalidation_to, invalidate_of, take_over_of, left_of, serve_of, request_of, put_s_of, put_x_of, with_wake, wake_after, grant_of, inv_ack_of, wake_of, arrive_of, with_state, with_memory}
+use Rattle.coherence.specs.Entries.{called_by, all_sends}
 use Rattle.coherence.specs.Pipes.{not_to_home_of}
 
 -- a message about the barrier
@@ -177,3 +179,13 @@ row_goes_back place Inv home = tt
 row_goes_back place Arrive home = tt
 row_goes_back place Leave home = tt
 row_goes_back place Go home = tt
+
+-- with the calls of its trap
+called_back : (nodes block : ℕ) (act : DirAct) → AllGoBack nodes block (called_by nodes block act)
+called_back nodes block Done = tt
+called_back nodes block Stray = tt
+called_back nodes block (Trap plan) = calls_back nodes block (targets_of nodes plan.targets)
+
+pub all_go_back : (place : Place) (body : Body) (home : HomeBlock) → AllGoBack place.nodes place.block (all_sends place (arrive_of place body home))
+all_go_back place body home =
+    both_back place.nodes place.block (arrive_of place body home).sends _ (row_goes_back place body home) (called_back place.nodes place.block (arrive_of place body home).act)

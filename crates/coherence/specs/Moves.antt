@@ -72,7 +72,6 @@ pub record IsLeft (before after : NodeState) : Type 0 where
 
 -- A step: who comes to the barrier sends one Arrive, and who leaves for good one Leave.
 pub record IsStepMove (before after : NodeState) (sends : List Stamped) : Type 0 where
-  pub left : IsLeft before after
   pub tells : Tells (waits_once (stand_in after.mode)) (gone_once (stand_in after.mode)) [] sends
 
 -- A message that isn't about the barrier moves nobody there.
@@ -124,10 +123,11 @@ after_message machine node key msg = (react_to_message machine node key msg).0
 abbrev pub sent_at_message : MachineParts → NodeState → Key → Msg → List Stamped
 sent_at_message machine node key msg = (react_to_message machine node key msg).1
 
--- In a machine of several nodes each event of a node moves it so at the barrier.
+-- In a machine of several nodes each event of a node moves it so at the barrier. What is left is so in any machine.
 pub record EventsMove : Type 0 where
   pub step : (machine : MachineParts) (node : NodeState) → (machine.nodes == 1) ≡ false → node.mode ≡ Running →
       IsStepMove node (react_to_step machine node).0 (react_to_step machine node).1
+  pub step_left : (machine : MachineParts) (node : NodeState) → node.mode ≡ Running → IsLeft node (react_to_step machine node).0
   -- Data that is asked for, or Inv
   pub copy : (machine : MachineParts) (node : NodeState) (key : Key) (msg : Msg) → comes_from_home msg.body ≡ true →
       IsWantedIn node.mode msg → IsNoMove node (after_message machine node key msg) (sent_at_message machine node key msg)
