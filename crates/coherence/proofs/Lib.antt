@@ -7,6 +7,7 @@ pub mod Wakes
 pub mod Steps
 pub mod Strays
 pub mod Lines
+pub mod Placed
 pub mod Built
 pub mod Called
 pub mod Meetings

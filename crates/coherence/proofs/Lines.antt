@@ -31,7 +31,7 @@ is_less Less p = refl
 is_less Equal p = absurd p
 is_less Greater p = absurd p
 
-abbrev Rises : List (Key × Msg) → Type 0
+abbrev pub Rises : List (Key × Msg) → Type 0
 Rises [] = Unit {0}
 Rises (m ∷ ms) = AllByRecursion (λ n. key_cmp m.0 n.0 ≡ Less) ms × Rises ms
 
@@ -45,7 +45,7 @@ rises_by [] rising = tt
 rises_by (m ∷ ms) rising =
     (all_less m.0 ms (and_first (below_all key_cmp m.0 ms) (is_sorted key_cmp ms) rising), rises_by ms (and_second (below_all key_cmp m.0 ms) (is_sorted key_cmp ms) rising))
 
-rises : (ms : List (Key × Msg)) → IsRising ms → Rises ms
+pub rises : (ms : List (Key × Msg)) → IsRising ms → Rises ms
 rises ms rising = rises_by ms (subst T (sym rising) tt)
 
 abbrev IsFresh : Key → List (Key × Msg) → Type 0
