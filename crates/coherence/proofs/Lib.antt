@@ -23,6 +23,5 @@ pub mod StepWalk
 pub mod Moves
 pub mod Sends
 pub mod Unmarked
-pub mod Placed
 pub mod WorldEvents
 pub mod WorldDeals

@@ -1,5 +1,5 @@
 -- What a home sends about a block goes to nodes to which no Inv is under way.
-use Rattle.std.proofs.Common.{◌≡◌, ℕ, ◌+◌, ◌⊎◌, inl, inr, Bool, true, false, List, [], ◌∷◌, ◌++◌, Option, refl, ap, sym, ◌∙◌, subst, arith}
+use Rattle.std.proofs.Common.{◌≡◌, ℕ, ◌+◌, ◌⊎◌, inl, inr, Bool, true, false, List, [], ◌∷◌, Option, refl, ap, sym, ◌∙◌, arith}
 use Rattle.std.specs.Prelude.{◌==◌, unwrap_or}
 use Rattle.std.proofs.lemmas.Bool.{cases_Bool, eqb-true}
 use Rattle.wt_proto.specs.declared.directory.Request.{Request}
@@ -8,7 +8,7 @@ use Rattle.wt_proto.specs.declared.message.Body.TheVariants.{GetS, GetX, PutS, P
 use Rattle.coherence.specs.Pipes.{mark_of, total, marks}
 use Rattle.coherence.specs.Block.{Cell, held, pipe, Roll, Home, View, count_of, without}
 use Rattle.coherence.specs.Block.Roll.{Idle, Shared, Exclusive, Busy}
-use Rattle.coherence.specs.Facts.{Counts, NodesFacts, IsCoherent}
+use Rattle.coherence.specs.Facts.{NodesFacts, IsCoherent}
 use Rattle.coherence.specs.Rows.{with_memory, awaiting_of, arrive_of, wake_of}
 use Rattle.coherence.proofs.Pipes.{total_parts}
 

@@ -1,10 +1,9 @@
 -- An event that isn't a directory's leaves each block of the world coherent.
-use Rattle.std.proofs.Common.{◌≡◌, ◌≢◌, ℕ, ◌+◌, ◌<◌, ◌≤◌, ◌⊎◌, inl, inr, Bool, true, false, List, [], ◌∷◌, ◌++◌, length, map, Option, Some, None, refl, ap, sym, ◌∙◌, subst, arith}
-use Rattle.std.specs.Prelude.{◌==◌, ◌&&◌}
+use Rattle.std.proofs.Common.{◌≡◌, ◌≢◌, ℕ, ◌⊎◌, inl, inr, true, false, List, [], ◌∷◌, ◌++◌, length, map, Some, refl, ap, sym, ◌∙◌, subst, arith}
+use Rattle.std.specs.Prelude.{◌==◌}
 use Rattle.std.specs.List.{AllByRecursion}
-use Rattle.std.proofs.lemmas.Bool.{cases_Bool, eqb-true, eq-eqb, ne_eqb}
-use Rattle.std.proofs.lemmas.List.{append-nil}
-use Rattle.std.specs.FinMap.{get, entries}
+use Rattle.std.proofs.lemmas.Bool.{cases_Bool, eqb-true, eq-eqb}
+use Rattle.std.specs.FinMap.{entries}
 use Rattle.wt_params.specs.declared.parts.MachineParts.{MachineParts}
 use Rattle.wt_params.specs.Machine.{IsMachine, home_of}
 use Rattle.wt_proto.specs.declared.key.Key.{Key}
@@ -13,27 +12,27 @@ use Rattle.wt_proto.specs.declared.message.Body.TheVariants.{GetS, GetX, PutS, P
 use Rattle.wt_proto.specs.declared.message.Msg.{Msg}
 use Rattle.wt_proto.specs.declared.message.Stamped.{Stamped}
 use Rattle.dir1sw.specs.Homes.{block_of}
-use Rattle.discrete_events.specs.Simulation.{Event, Step, Arrival, Message}
+use Rattle.discrete_events.specs.Simulation.{Event, Message}
 use Rattle.discrete_events.specs.World.{least, events_in}
 use Rattle.discrete_events.specs.Serial.{placed, taken, node_after}
 use Rattle.discrete_events.specs.Laws.{IsIn}
 use Rattle.discrete_events.proofs.Lists.{all_in, from_map, in_map}
 use Rattle.node.specs.declared.state.NodeState.{NodeState}
 use Rattle.node.specs.React.{message_under_key, wind_tunnel}
-use Rattle.coherence.specs.Pipes.{not_to_home_of, not_from_home_of}
+use Rattle.coherence.specs.Pipes.{not_from_home_of}
 use Rattle.coherence.specs.Block.{Cell, Home, View}
 use Rattle.coherence.specs.Facts.{NodeFacts, asks_at_home, wakes_due, IsCoherent}
-use Rattle.coherence.specs.Laws.{AreEnabled, steps_of}
+use Rattle.coherence.specs.Laws.{steps_of}
 use Rattle.coherence.specs.Entries.{kept_of, wake_in}
 use Rattle.coherence.specs.Lines.{line, goes_from, comes_to, bodies}
 use Rattle.coherence.specs.Steps.{with_cell}
-use Rattle.coherence.specs.Deals.{cell_of, is_for_home, is_from_home, body_if, sent_home, said, as_step, all_dealt, MayDealAll, DealsWith, AreStepsAt}
+use Rattle.coherence.specs.Deals.{cell_of, is_for_home, sent_home, said, as_step, all_dealt, MayDealAll, DealsWith, AreStepsAt}
 use Rattle.coherence.specs.Sends.{is_of_home, IsNotOfHome}
 use Rattle.coherence.specs.Worlds.{World, under_way, to_home_in, from_home_in, cell_by, cell_in, is_wake, view_in, IsCoherentBlock, AreRight}
 use Rattle.coherence.proofs.Steps.{steps_keep}
 use Rattle.coherence.proofs.Deals.{deals_are_steps_law}
 use Rattle.coherence.proofs.Placed.{bodies_append, length_none}
-use Rattle.coherence.proofs.WorldEvents.{IsWorldOf, node_is, in_node, two_true, comes_to_is, at, sends, news, after, news_is, none_from, none_to, home_rises, later_line, later_passed, later_count, later_here, later_elsewhere, in_later, reacted}
+use Rattle.coherence.proofs.WorldEvents.{IsWorldOf, node_is, two_true, comes_to_is, at, sends, news, after, news_is, none_from, home_rises, later_line, later_passed, later_count, later_here, later_elsewhere, in_later, reacted}
 
 -- ---- views
 

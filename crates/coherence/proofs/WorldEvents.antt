@@ -1,8 +1,8 @@
 -- The least event of a world: the node that handles it, and the nodes and messages after it.
-use Rattle.std.proofs.Common.{◌≡◌, ◌≢◌, ℕ, suc, ◌+◌, ◌<◌, ◌≤◌, ◌⊎◌, inl, inr, Bool, true, false, cond, List, [], ◌∷◌, ◌++◌, length, map, Option, Some, None, option_map, refl, ap, sym, ◌∙◌, subst, arith}
+use Rattle.std.proofs.Common.{◌≡◌, ◌≢◌, ℕ, suc, ◌+◌, ◌<◌, ◌≤◌, ◌⊎◌, inl, inr, Bool, true, false, List, [], ◌∷◌, ◌++◌, length, map, Option, Some, None, option_map, refl, ap, sym, ◌∙◌, subst, arith}
 use Rattle.std.specs.Prelude.{flat_map, ◌==◌, ◌&&◌, nat_le}
 use Rattle.std.proofs.lemmas.Bool.{cases_Bool, eqb-true, eq-eqb, ne_eqb}
-use Rattle.std.specs.FinMap.{FinMap, get, entries, remove}
+use Rattle.std.specs.FinMap.{get, entries}
 use Rattle.wt_params.specs.declared.parts.MachineParts.{MachineParts}
 use Rattle.wt_params.specs.Machine.{IsMachine, home_of}
 use Rattle.wt_network.specs.Stamps.{stamp_of}
@@ -13,18 +13,17 @@ use Rattle.wt_proto.specs.declared.message.Msg.{Msg}
 use Rattle.wt_proto.specs.declared.message.Stamped.{Stamped}
 use Rattle.wt_proto.specs.declared.mode.Mode.{Mode}
 use Rattle.wt_proto.specs.declared.mode.Mode.TheVariants.{Running, Waiting, InBarrier, Stopped}
-use Rattle.wt_proto.specs.KeyOrder.{key_cmp}
 use Rattle.discrete_events.specs.Simulation.{Simulation, Event, Step, Arrival, Message}
 use Rattle.discrete_events.specs.World.{least, events_in}
-use Rattle.discrete_events.specs.Serial.{placed, taken, is_for, node_after, sent_by, with_quantum, after_event, after_least, serial_step}
+use Rattle.discrete_events.specs.Serial.{placed, taken, node_after, sent_by, with_quantum, after_least, serial_step}
 use Rattle.discrete_events.specs.Laws.{IsIn, IsNumbered, IsStation, IsSimulation, Reacts, IsSent, AreInSequence, IsWorld, IsAfter}
 use Rattle.discrete_events.specs.Theorems.{AreNew}
 use Rattle.discrete_events.proofs.Lists.{all_in, from_map, in_map, from_filter}
 use Rattle.discrete_events.proofs.Keys.{IsUpTo, less_time, less_upto}
 use Rattle.discrete_events.specs.KeyTimes.{earlier_less}
 use Rattle.discrete_events.proofs.Queues.{Queue}
-use Rattle.discrete_events.proofs.Events.{IsEventOf, IsEventBelow, event_is, event_to, least_in, counts_time}
-use Rattle.discrete_events.proofs.Stations.{left_over, from_placed, not_before, due as due_now, reacts as reacts_now}
+use Rattle.discrete_events.proofs.Events.{IsEventOf, IsEventBelow, event_is, event_to, least_in}
+use Rattle.discrete_events.proofs.Stations.{left_over, from_placed, not_before, due as due_now}
 use Rattle.discrete_events.proofs.Numbered.{single_flat, numbered_same}
 use Rattle.discrete_events.proofs.NewKeys.{keys_are_new}
 use Rattle.node.specs.declared.state.NodeState.{NodeState}
@@ -325,16 +324,16 @@ module _ (machine : MachineParts) (is : IsMachine machine) (world : World) (ok :
     line_rises is_of to old new =
         rises_after is_of (line is_of (entries (taken event world.pending))) news at.node.number to (stamp_of machine at.node.number to right_sends.at) at.node.counters.sent
         (λ other h.
-            let there = was_there other.0 other.1 (in_line is_of (taken event world.pending) other h).0 in
-            let o = old other h in
-            let t = older other.1.body other.0 (last_time_of at.node) (let b = last_before in let a = right_sends.not_before in omega (arith, a, b)) o.2 (right.in_time other.0 other.1 at.node there.0 at.member o.0) in
-            (o.0, o.1, subst (λ (n : ℕ). other.0.time ≤ stamp_of machine n to right_sends.at) o.0 (subst (λ (n : ℕ). other.0.time ≤ stamp_of machine other.0.from n right_sends.at) o.1 t), station.numbered other.0 other.1 there.0 o.0))
+        let there = was_there other.0 other.1 (in_line is_of (taken event world.pending) other h).0 in
+        let o = old other h in
+        let t = older other.1.body other.0 (last_time_of at.node) (let b = last_before in let a = right_sends.not_before in omega (arith, a, b)) o.2 (right.in_time other.0 other.1 at.node there.0 at.member o.0) in
+        (o.0, o.1, subst (λ (n : ℕ). other.0.time ≤ stamp_of machine n to right_sends.at) o.0 (subst (λ (n : ℕ). other.0.time ≤ stamp_of machine other.0.from n right_sends.at) o.1 t), station.numbered other.0 other.1 there.0 o.0))
         in_sequence
         (λ message h.
-            let among = from_filter is_of message news h in
-            let n = news_is message among.0 in
-            let to_is = new message among.0 among.1 in
-            (n.from, to_is, n.time ∙ ap (λ (k : ℕ). stamp_of machine k message.0.to right_sends.at) n.from ∙ ap (λ (k : ℕ). stamp_of machine at.node.number k right_sends.at) to_is))
+        let among = from_filter is_of message news h in
+        let n = news_is message among.0 in
+        let to_is = new message among.0 among.1 in
+        (n.from, to_is, n.time ∙ ap (λ (k : ℕ). stamp_of machine k message.0.to right_sends.at) n.from ∙ ap (λ (k : ℕ). stamp_of machine at.node.number k right_sends.at) to_is))
 
     -- ---- the two lines of a block and a node
 
@@ -342,12 +341,12 @@ module _ (machine : MachineParts) (is : IsMachine machine) (world : World) (ok :
     home_rises block number = elim (cases_Bool (number == at.node.number)) [
       | inl here ↦ line_rises (goes_from block number) (home_of machine block)
           (λ other h.
-              let there = in_line (goes_from block number) (taken event world.pending) other h in
-              let parts = goes_from_is block number other there.1 in
-              (parts.0 ∙ eqb-true number at.node.number here, to_its_home machine other.1.body other.0.from other.0.to block parts.2 (subst (λ (b : ℕ). GoesRight machine other.0.from other.0.to b other.1.body) parts.1 (right.goes other.0 other.1 (was_there other.0 other.1 there.0).0)), inr parts.2))
+          let there = in_line (goes_from block number) (taken event world.pending) other h in
+          let parts = goes_from_is block number other there.1 in
+          (parts.0 ∙ eqb-true number at.node.number here, to_its_home machine other.1.body other.0.from other.0.to block parts.2 (subst (λ (b : ℕ). GoesRight machine other.0.from other.0.to b other.1.body) parts.1 (right.goes other.0 other.1 (was_there other.0 other.1 there.0).0)), inr parts.2))
           (λ message h is_of.
-              let parts = goes_from_is block number message is_of in
-              to_its_home machine message.1.body message.0.from message.0.to block parts.2 (subst (λ (b : ℕ). GoesRight machine message.0.from message.0.to b message.1.body) parts.1 (news_is message h).goes))
+          let parts = goes_from_is block number message is_of in
+          to_its_home machine message.1.body message.0.from message.0.to block parts.2 (subst (λ (b : ℕ). GoesRight machine message.0.from message.0.to b message.1.body) parts.1 (news_is message h).goes))
       | inr apart ↦ subst (RiseAfter (line (goes_from block number) (entries (taken event world.pending)))) (sym (none_from block number apart)) tt
     ]
 
@@ -356,9 +355,9 @@ module _ (machine : MachineParts) (is : IsMachine machine) (world : World) (ok :
     comes_rises block number none = elim (cases_Bool (at.node.number == home_of machine block)) [
       | inl here ↦ line_rises (comes_to block number) number
           (λ other h.
-              let there = in_line (comes_to block number) (taken event world.pending) other h in
-              let parts = comes_to_is block number other there.1 in
-              (from_its_home machine other.1.body other.0.from other.0.to block parts.2 (subst (λ (b : ℕ). GoesRight machine other.0.from other.0.to b other.1.body) parts.1 (right.goes other.0 other.1 (was_there other.0 other.1 there.0).0)) ∙ sym (eqb-true at.node.number (home_of machine block) here), parts.0, inl (no_mark other (line (comes_to block number) (entries (taken event world.pending))) h none)))
+          let there = in_line (comes_to block number) (taken event world.pending) other h in
+          let parts = comes_to_is block number other there.1 in
+          (from_its_home machine other.1.body other.0.from other.0.to block parts.2 (subst (λ (b : ℕ). GoesRight machine other.0.from other.0.to b other.1.body) parts.1 (right.goes other.0 other.1 (was_there other.0 other.1 there.0).0)) ∙ sym (eqb-true at.node.number (home_of machine block) here), parts.0, inl (no_mark other (line (comes_to block number) (entries (taken event world.pending))) h none)))
           (λ message h is_of. (comes_to_is block number message is_of).0)
       | inr apart ↦ subst (RiseAfter (line (comes_to block number) (entries (taken event world.pending)))) (sym (none_to block number apart)) tt
     ]
