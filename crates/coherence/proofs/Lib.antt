@@ -25,3 +25,4 @@ pub mod Sends
 pub mod Unmarked
 pub mod WorldEvents
 pub mod WorldDeals
+pub mod WorldRows
