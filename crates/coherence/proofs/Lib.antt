@@ -26,3 +26,4 @@ pub mod Unmarked
 pub mod WorldEvents
 pub mod WorldDeals
 pub mod WorldRows
+pub mod WorldSteps

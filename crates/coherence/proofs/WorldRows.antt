@@ -206,7 +206,7 @@ act_wakes_nobody nodes block (Trap plan) = calls_wake_nobody block (targets_of n
 
 -- ---- a node's part
 
-cell_down : (block : ℕ) (up down : List Body) (found : Option NodeState) → (cell_by block up down found).from_home ≡ down
+pub cell_down : (block : ℕ) (up down : List Body) (found : Option NodeState) → (cell_by block up down found).from_home ≡ down
 cell_down block up down None = refl
 cell_down block up down (Some node) = refl
 
