@@ -26,3 +26,5 @@ pub mod Unmarked
 pub mod WorldEvents
 pub mod WorldDeals
 pub mod WorldMeetings
+pub mod WorldRows
+pub mod WorldSteps

@@ -1,0 +1,178 @@
+-- Each event of the serial run leaves the blocks of the world coherent.
+use Rattle.std.proofs.Common.{◌≡◌, ◌≢◌, ℕ, ◌+◌, ◌<◌, ◌≤◌, ◌⊎◌, inl, inr, Bool, true, false, List, [], ◌∷◌, ◌++◌, length, map, Option, Some, None, refl, ap, sym, ◌∙◌, subst, arith}
+use Rattle.std.specs.Prelude.{◌==◌, ◌&&◌, IfSome}
+use Rattle.std.specs.List.{AllByRecursion}
+use Rattle.std.proofs.lemmas.Bool.{cases_Bool, eqb-true, eq-eqb, ne_eqb}
+use Rattle.std.specs.FinMap.{get, entries}
+use Rattle.wt_params.specs.declared.parts.MachineParts.{MachineParts}
+use Rattle.wt_params.specs.Machine.{IsMachine, home_of}
+use Rattle.wt_proto.specs.declared.key.Key.{Key}
+use Rattle.wt_proto.specs.declared.message.Body.{Body}
+use Rattle.wt_proto.specs.declared.message.Body.TheVariants.{GetS, GetX, PutS, PutX, DataS, DataX, Inv, InvAck, Wake, Arrive, Leave, Go}
+use Rattle.wt_proto.specs.declared.message.Msg.{Msg}
+use Rattle.wt_proto.specs.declared.message.Stamped.{Stamped}
+use Rattle.wt_proto.specs.Messages.{BlockFits, data_of}
+use Rattle.dir1sw.specs.Table.{grant_body}
+use Rattle.discrete_events.specs.Simulation.{Event, Step, Arrival, Message}
+use Rattle.discrete_events.specs.World.{least, events_in}
+use Rattle.discrete_events.specs.Serial.{placed, taken, node_after}
+use Rattle.node.specs.declared.state.NodeState.{NodeState}
+use Rattle.node.specs.React.{wind_tunnel}
+use Rattle.coherence.specs.Pipes.{not_to_home_of, not_from_home_of}
+use Rattle.coherence.specs.Entries.{wake_in}
+use Rattle.coherence.specs.Lines.{line, goes_from, comes_to, bodies}
+use Rattle.coherence.specs.Deals.{cell_of, is_from_home, body_if, sent_home, said, wanted_in, DealsWith, IsWantedIn}
+use Rattle.coherence.specs.RowDeals.{is_for_directory}
+use Rattle.coherence.specs.Moves.{comes_from_home}
+use Rattle.coherence.specs.Worlds.{World, under_way, to_home_in, from_home_in, cell_by, cell_in, is_wake, view_in, IsCoherentBlock, AreRight}
+use Rattle.coherence.proofs.StepDeals.{steps_deal_law}
+use Rattle.coherence.proofs.MessageDeals.{messages_deal_law}
+use Rattle.coherence.proofs.Moves.{events_move_law}
+use Rattle.coherence.proofs.Sends.{sends_are_right_law}
+use Rattle.coherence.proofs.Strays.{nothing_stray}
+use Rattle.coherence.proofs.Placed.{line_taken}
+use Rattle.coherence.proofs.WorldEvents.{IsWorldOf, node_is, two_true, goes_from_is, comes_to_is, at, sound, sends, news, after, step_now}
+use Rattle.coherence.proofs.WorldDeals.{IsDealt, dealt_block}
+use Rattle.coherence.proofs.WorldRows.{cell_down, to_is, fits, goes, stays, there, first_there, every_block, none_stray_of_row}
+
+-- what isn't for the directory isn't for a home, and no Wake
+not_for_directory : (body : Body) → is_for_directory body ≡ false → (not_to_home_of body ≡ 1) × (wake_in body ≡ 0)
+not_for_directory (DataS bytes) kind = (refl, refl)
+not_for_directory (DataX bytes) kind = (refl, refl)
+not_for_directory Inv kind = (refl, refl)
+not_for_directory Arrive kind = (refl, refl)
+not_for_directory Leave kind = (refl, refl)
+not_for_directory Go kind = (refl, refl)
+not_for_directory GetS kind = absurd cc
+not_for_directory (GetX had) kind = absurd cc
+not_for_directory PutS kind = absurd cc
+not_for_directory (PutX bytes) kind = absurd cc
+not_for_directory (InvAck bytes) kind = absurd cc
+not_for_directory Wake kind = absurd cc
+
+-- what a processor in a mode waits for, seen from the block of a message
+cell_wants : (block : ℕ) (up down : List Body) (node : NodeState) → (cell_by block up down (Some node)).wants ≡ wanted_in block node.mode
+cell_wants block up down node = refl
+
+-- ---- a step
+
+module _ (machine : MachineParts) (is : IsMachine machine) (world : World) (ok : IsWorldOf machine world) (key : Key) where
+  module _ (is_least : least (events_in (wind_tunnel machine) world) ≡ Some (key, Step)) where
+    step_dealt : (block : ℕ) → IsDealt machine is world ok key Step is_least block
+    step_dealt block = record {
+      deals = steps_deal_law machine (at machine is world ok key Step is_least).node block
+          (to_home_in world block (at machine is world ok key Step is_least).node.number) (from_home_in world block (at machine is world ok key Step is_least).node.number)
+          (sound machine is world ok key Step is_least) (step_now machine is world ok key Step is_least refl).0;
+      homes = λ number. refl;
+      others = λ number apart. refl;
+      wakes = refl;
+    }
+
+    pub blocks_after_step : (later : World) → later.nodes ≡ map (node_after (wind_tunnel machine) key Step) world.nodes → later.pending ≡ placed (taken Step world.pending) (news machine is world ok key Step is_least) →
+        AreRight machine world → (block : ℕ) → IsCoherentBlock machine world block → IsCoherentBlock machine later block
+    blocks_after_step later nodes_is pending_is right block =
+        dealt_block machine is world ok key Step is_least later nodes_is pending_is right
+        (events_move_law.step_left machine (at machine is world ok key Step is_least).node (step_now machine is world ok key Step is_least refl).0).directory
+        (sends_are_right_law.step_out machine (at machine is world ok key Step is_least).node)
+        block (step_dealt block)
+
+  -- ---- a message that isn't a directory's
+
+  module _ (message : Message Msg) (is_least : least (events_in (wind_tunnel machine) world) ≡ Some (key, Arrival message)) (right : AreRight machine world) where
+    abbrev it : NodeState
+    it = (at machine is world ok key (Arrival message) is_least).node
+
+    abbrev left : List (Key × Msg)
+    left = entries (taken (Arrival message) world.pending)
+
+    abbrev it_stays : (is_of : Key × Msg → Bool) → is_of message ≡ false → line is_of left ≡ under_way is_of world
+    it_stays = stays machine is world ok key message is_least right
+
+    -- ---- Data is asked for
+
+    -- what comes from a home comes to its node as the first of its line
+    of_line : not_from_home_of message.1.body ≡ 0 → comes_to message.1.block it.number message ≡ true
+    of_line kind = rw (eq-eqb message.0.to it.number (to_is machine is world ok key message is_least right), eq-eqb message.1.block message.1.block refl, kind) refl
+
+    first_down : not_from_home_of message.1.body ≡ 0 → (rest : List (Key × Msg)) × (under_way (comes_to message.1.block it.number) world ≡ message ∷ rest)
+    first_down kind = first_there machine is world ok key message is_least right (comes_to message.1.block it.number) (of_line kind) (λ other t. (comes_to_is message.1.block it.number other t).0)
+
+    granted : (exclusive : Bool) (bytes : List ℕ) → message.1.body ≡ grant_body exclusive bytes → not_from_home_of message.1.body ≡ 0 → IsCoherentBlock machine world message.1.block → wanted_in message.1.block it.mode ≡ Some exclusive
+    granted exclusive bytes e kind before =
+        let view = view_in world message.1.block before.home in
+        let first = first_down kind in
+        let here = node_is machine 0 world.nodes it ok.numbered (at machine is world ok key (Arrival message) is_least).member in
+        let front : (view.cell it.number).from_home ≡ grant_body exclusive bytes ∷ bodies first.0 =
+        cell_down message.1.block (to_home_in world message.1.block it.number) (from_home_in world message.1.block it.number) _ ∙ ap bodies first.1 ∙ ap (λ (b : Body). b ∷ bodies first.0) e in
+        sym (ap (λ (c : Option NodeState). (cell_by message.1.block (to_home_in world message.1.block it.number) (from_home_in world message.1.block it.number) c).wants) here)
+        ∙ nothing_stray.filled view it.number exclusive bytes (bodies first.0) before.facts front
+
+    pub wanted : ((block : ℕ) → block < machine.blocks → IsCoherentBlock machine world block) → IsWantedIn it.mode message.1
+    wanted before = by message.1.body refl
+      where
+        by : (body : Body) → message.1.body ≡ body → IsWantedIn it.mode (record { block = message.1.block; body = body })
+        by (DataS bytes) e = granted false bytes e (ap not_from_home_of e) (before message.1.block (subst (BlockFits machine message.1.block) e (fits machine is world ok key message is_least right).msg.block))
+        by (DataX bytes) e = granted true bytes e (ap not_from_home_of e) (before message.1.block (subst (BlockFits machine message.1.block) e (fits machine is world ok key message is_least right).msg.block))
+        by GetS e = tt
+        by (GetX had) e = tt
+        by PutS e = tt
+        by (PutX bytes) e = tt
+        by Inv e = tt
+        by (InvAck bytes) e = tt
+        by Wake e = tt
+        by Arrive e = tt
+        by Leave e = tt
+        by Go e = tt
+
+    -- ---- its deals
+
+    module _ (kind : is_for_directory message.1.body ≡ false) where
+      not_up : (block number : ℕ) → goes_from block number message ≡ false
+      not_up block number = elim (cases_Bool (goes_from block number message)) [
+        | inl t ↦ absurd (let a = (goes_from_is block number message t).2 in let b = (not_for_directory message.1.body kind).0 in omega (arith, a, b))
+        | inr f ↦ f
+      ]
+
+      not_wake : (block : ℕ) → is_wake block message ≡ false
+      not_wake block = elim (cases_Bool (is_wake block message)) [
+        | inl t ↦ absurd (let a = eqb-true (wake_in message.1.body) 1 (two_true (message.1.block == block) (wake_in message.1.body == 1) t).1 in let b = (not_for_directory message.1.body kind).1 in omega (arith, a, b))
+        | inr f ↦ f
+      ]
+
+      not_there : (block number : ℕ) → (number == it.number) ≡ false → comes_to block number message ≡ false
+      not_there block number apart = elim (cases_Bool (comes_to block number message)) [
+        | inl t ↦ absurd (let e : number ≡ it.number = sym (comes_to_is block number message t).0 ∙ to_is machine is world ok key message is_least right in let t : (number == it.number) ≡ true = eq-eqb number it.number e in let f : true ≡ false = sym t ∙ apart in cc)
+        | inr f ↦ f
+      ]
+
+      -- the line of its node: the message, where it is about the block, and what is left
+      down_is : (block : ℕ) → from_home_in world block it.number ≡ body_if (is_from_home block message.1) message.1 ++ bodies (line (comes_to block it.number) left)
+      down_is block = elim (cases_Bool (is_from_home block message.1)) [
+        | inl from ↦
+            let of_it : comes_to block it.number message ≡ true = rw (eq-eqb message.0.to it.number (to_is machine is world ok key message is_least right), from) refl in
+            let first = first_there machine is world ok key message is_least right (comes_to block it.number) of_it (λ other t. (comes_to_is block it.number other t).0) in
+            rw from (ap bodies first.1 ∙ ap (λ (l : List (Key × Msg)). message.1.body ∷ bodies l) (sym (line_taken (comes_to block it.number) world.pending message first.0 (there machine is world ok key message is_least right) first.1)))
+        | inr other ↦
+            let isnt : comes_to block it.number message ≡ false = rw (eq-eqb message.0.to it.number (to_is machine is world ok key message is_least right), other) refl in
+            rw other (ap bodies (sym (it_stays (comes_to block it.number) isnt)))
+      ]
+
+      message_dealt : ((block : ℕ) → block < machine.blocks → IsCoherentBlock machine world block) → (block : ℕ) → IsDealt machine is world ok key (Arrival message) is_least block
+      message_dealt before block = record {
+        deals = subst (λ (down : List Body). DealsWith (cell_of block (to_home_in world block it.number) down it)
+            (cell_of block (to_home_in world block it.number ++ sent_home block (said (sends machine is world ok key (Arrival message) is_least))) (bodies (line (comes_to block it.number) left)) (after machine is world ok key (Arrival message) is_least)))
+            (sym (down_is block))
+            (messages_deal_law machine it message.0 message.1 block (to_home_in world block it.number) (bodies (line (comes_to block it.number) left))
+            (sound machine is world ok key (Arrival message) is_least) (wanted before) (fits machine is world ok key message is_least right).msg.«data»);
+        homes = λ number. it_stays (goes_from block number) (not_up block number);
+        others = λ number apart. it_stays (comes_to block number) (not_there block number apart);
+        wakes = ap (λ (l : List (Key × Msg)). length l) (it_stays (is_wake block) (not_wake block));
+      }
+
+      pub blocks_after_message : (later : World) → later.nodes ≡ map (node_after (wind_tunnel machine) key (Arrival message)) world.nodes → later.pending ≡ placed (taken (Arrival message) world.pending) (news machine is world ok key (Arrival message) is_least) →
+          (after machine is world ok key (Arrival message) is_least).directory ≡ it.directory →
+          ((block : ℕ) → block < machine.blocks → IsCoherentBlock machine world block) → (block : ℕ) → block < machine.blocks → IsCoherentBlock machine later block
+      blocks_after_message later nodes_is pending_is directory before block inside =
+          dealt_block machine is world ok key (Arrival message) is_least later nodes_is pending_is right directory
+          (sends_are_right_law.message_out machine it message.0 message.1 kind)
+          block (message_dealt before block) (before block inside)
