@@ -28,3 +28,4 @@ pub mod WorldDeals
 pub mod WorldMeetings
 pub mod WorldRows
 pub mod WorldSteps
+pub mod WorldRuns
