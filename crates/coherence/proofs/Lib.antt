@@ -29,3 +29,4 @@ pub mod WorldMeetings
 pub mod WorldRows
 pub mod WorldSteps
 pub mod WorldRuns
+pub mod WorldStart
