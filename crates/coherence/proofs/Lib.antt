@@ -30,3 +30,4 @@ pub mod WorldRows
 pub mod WorldSteps
 pub mod WorldRuns
 pub mod WorldStart
+pub mod WorldSerial

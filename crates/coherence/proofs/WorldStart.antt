@@ -1,8 +1,7 @@
 -- A machine at the start is a coherent world.
-use Rattle.std.proofs.Common.{◌≡◌, ◌≢◌, ℕ, zero, suc, ◌+◌, ◌*◌, ◌/◌, ◌%◌, ◌<◌, ◌≤◌, Bool, true, false, List, [], ◌∷◌, length, map, replicate, get_or, Option, Some, None, refl, ap, sym, ◌∙◌, subst, arith, inl, inr}
-use Rattle.std.specs.Prelude.{◌==◌}
+use Rattle.std.proofs.Common.{◌≡◌, ℕ, zero, suc, ◌/◌, ◌<◌, Bool, false, List, [], length, map, replicate, get_or, Option, Some, None, refl, ap, sym, ◌∙◌, subst, arith}
 use Rattle.std.specs.List.{range_with_len, find}
-use Rattle.std.specs.FinMap.{get, get-empty, empty, entries}
+use Rattle.std.specs.FinMap.{get-empty, empty, entries}
 use Rattle.std.proofs.lemmas.List.FromFn.{get_or-map-range_with_len}
 use Rattle.wt_params.specs.declared.parts.MachineParts.{MachineParts}
 use Rattle.wt_params.specs.Machine.{IsMachine, home_of}
@@ -25,8 +24,7 @@ use Rattle.node.specs.Start.{start_node}
 use Rattle.quantum.specs.World.{start_of}
 use Rattle.coherence.specs.Block.{no_part, Home}
 use Rattle.coherence.specs.Block.Roll.{Idle}
-use Rattle.coherence.specs.Entries.{kept_of}
-use Rattle.coherence.specs.Lines.{line, goes_from, comes_to}
+use Rattle.coherence.specs.Lines.{goes_from, comes_to}
 use Rattle.coherence.specs.Deals.{copy_by, copy_of, wanted_in}
 use Rattle.coherence.specs.Meetings.Stand.{Away}
 use Rattle.coherence.specs.Moves.{stand_in}
