@@ -2,6 +2,7 @@
 -- messages between it and the home. Own.
 use Rattle.std.specs.Prelude.{◌≡◌, ⊤, ℕ, ◌==◌, ◌&&◌, Bool, true, false, List, [], ◌∷◌, ◌++◌, length, map, option_map, IfSome, Option, Some, None, if◌then◌else◌}
 use Rattle.wt_params.specs.declared.parts.MachineParts.{MachineParts}
+use Rattle.wt_params.specs.Machine.{shared_block}
 use Rattle.wt_proto.specs.declared.key.Key.{Key}
 use Rattle.wt_proto.specs.declared.message.Body.{Body}
 use Rattle.wt_proto.specs.declared.message.Body.TheVariants.{DataS, DataX, Inv}
@@ -10,11 +11,14 @@ use Rattle.wt_proto.specs.declared.message.Stamped.{Stamped}
 use Rattle.wt_proto.specs.Messages.{data_of}
 use Rattle.wt_proto.specs.declared.mode.Mode.{Mode}
 use Rattle.wt_proto.specs.declared.mode.Mode.TheVariants.{Running, Waiting}
+use Rattle.wt_trace.specs.declared.record.Deed.{Deed}
+use Rattle.wt_trace.specs.declared.record.Deed.TheVariants.{Stored}
 use Rattle.dir1sw.specs.Table.{grant_body}
+use Rattle.discrete_events.specs.Simulation.{Step as StepEvent, Arrival}
 use Rattle.target_cache.specs.declared.line.Line.{Line}
 use Rattle.target_cache.specs.Cached.{Cached, line_of}
 use Rattle.node.specs.declared.state.NodeState.{NodeState}
-use Rattle.node.specs.React.{react_to_step, react_to_message}
+use Rattle.node.specs.React.{react_to_step, react_to_message, record_of}
 use Rattle.node.specs.Sound.{IsNode}
 use Rattle.coherence.specs.Block.{Copy, Cell, View}
 use Rattle.coherence.specs.Pipes.{not_to_home_of, not_from_home_of}
@@ -109,11 +113,27 @@ abbrev pub MayDealAll : Cell → List Deal → Type 0
 MayDealAll cell [] = ⊤
 MayDealAll cell (deal ∷ deals) = MayDeal cell deal × MayDealAll (dealt deal cell) deals
 
--- From one part to the other by some deals.
-pub record DealsWith (before after : Cell) : Type 0 where
+-- the value of the block after them: what the last store left
+abbrev pub left_by : List Deal → List ℕ → List ℕ
+left_by [] value = value
+left_by (Writes old new ∷ deals) value = left_by deals new
+left_by (deal ∷ deals) value = left_by deals value
+
+-- From one part to the other by some deals, none of which changes the value but where there is a store.
+pub record DealsWith (stores : Bool) (before after : Cell) : Type 0 where
   pub deals : List Deal
   pub may : MayDealAll before deals
   pub is : after ≡ all_dealt deals before
+  pub keeps : stores ≡ false → (value : List ℕ) → left_by deals value ≡ value
+
+-- whether a deed is a store to a block
+abbrev pub stores_to : MachineParts → Deed → ℕ → Bool
+stores_to machine (Stored address width value) block = is_at (shared_block machine address)
+  where
+    is_at : Option ℕ → Bool
+    is_at None = false
+    is_at (Some other) = other == block
+stores_to machine deed block = false
 
 -- ---- the laws
 
@@ -135,7 +155,7 @@ abbrev pub StepsDeal : Type 0
 StepsDeal =
     (machine : MachineParts) (node : NodeState) (block : ℕ) (to_home from_home : List Body) → IsNode machine node →
     node.mode ≡ Running →
-    DealsWith (cell_of block to_home from_home node)
+    DealsWith (stores_to machine (record_of machine node StepEvent).deed block) (cell_of block to_home from_home node)
     (cell_of block (to_home ++ sent_home block (said (react_to_step machine node).1)) from_home
     (react_to_step machine node).0)
 
@@ -154,6 +174,7 @@ MessagesDeal =
     (machine : MachineParts) (node : NodeState) (key : Key) (msg : Msg) (block : ℕ) (to_home rest : List Body) →
     IsNode machine node → IsWantedIn node.mode msg →
     IfSome (data_of msg.body) (λ bytes. length bytes ≡ machine.block_bytes) →
-    DealsWith (cell_of block to_home (body_if (is_from_home block msg) msg ++ rest) node)
+    DealsWith (stores_to machine (record_of machine node (Arrival (key, msg))).deed block)
+    (cell_of block to_home (body_if (is_from_home block msg) msg ++ rest) node)
     (cell_of block (to_home ++ sent_home block (said (react_to_message machine node key msg).1)) rest
     (react_to_message machine node key msg).0)

@@ -14,3 +14,5 @@ pub mod Moves
 pub mod Sends
 pub mod Worlds
 pub mod Runs
+pub mod Traces
+pub mod Accesses
