@@ -31,3 +31,5 @@ pub mod WorldSteps
 pub mod WorldRuns
 pub mod WorldStart
 pub mod WorldSerial
+pub mod Known
+pub mod StartBytes

@@ -15,4 +15,5 @@ pub mod Sends
 pub mod Worlds
 pub mod Runs
 pub mod Traces
+pub mod Loads
 pub mod Accesses

@@ -7,7 +7,9 @@
 
 mod block;
 mod events;
+mod loads;
 mod runs;
+mod start;
 
 pub use block::{
     lines_keep_order, meetings_are_orderly, nothing_is_stray, one_writer, rows_are_built,
@@ -16,4 +18,5 @@ pub use block::{
 pub use events::{
     deals_are_steps, events_move, messages_deal, rows_deal, sends_are_right, steps_deal,
 };
+pub use loads::check_loads;
 pub use runs::{events_keep_coherence, runs_of_machines_are_coherent};
