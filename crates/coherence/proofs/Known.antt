@@ -1,9 +1,9 @@
 -- Bytes and words along a trace, one byte and one record at a time.
-use Rattle.std.proofs.Common.{◌≡◌, ℕ, zero, suc, ◌+◌, ◌-◌, ◌/◌, ◌%◌, ◌<◌, ◌≤◌, Some, None, List, [], ◌∷◌, ◌++◌, length, take, drop, replicate, get_or, set, refl, ap, sym, ◌∙◌, arith, zero-add}
+use Rattle.std.proofs.Common.{◌≡◌, ℕ, zero, suc, ◌+◌, ◌/◌, ◌%◌, ◌<◌, ◌≤◌, Some, None, List, [], ◌∷◌, ◌++◌, length, take, drop, replicate, get_or, set, refl, ap, sym, ◌∙◌, arith}
 use Rattle.std.specs.Prelude.{slice_get}
-use Rattle.std.proofs.lemmas.List.{take-replicate, take_all, drop_more, drop_all}
+use Rattle.std.proofs.lemmas.List.{take-replicate, take_all, drop_more}
 use Rattle.std.proofs.lemmas.Option.{slice_get_within, get_or_from_slice_get}
-use Rattle.wt_trace.proofs.Walks.{take_next, all_taken}
+use Rattle.wt_trace.proofs.Walks.{take_next}
 use Rattle.priv_mem.specs.Memory.{low_bytes}
 use Rattle.wt_trace.specs.declared.record.Record.{Record}
 use Rattle.coherence.specs.Traces.{Known, after_record, after_records, bytes_from, with_number}

@@ -1,12 +1,11 @@
 -- Shared memory at the start is what the homes of its blocks have.
-use Rattle.std.proofs.Common.{◌≡◌, ℕ, zero, suc, ◌+◌, ◌-◌, ◌*◌, ◌/◌, ◌%◌, ◌<◌, ◌≤◌, List, [], ◌∷◌, ◌++◌, length, take, drop, replicate, refl, ap, sym, ◌∙◌, arith}
+use Rattle.std.proofs.Common.{◌≡◌, ℕ, zero, suc, ◌+◌, ◌-◌, ◌*◌, ◌/◌, ◌<◌, ◌≤◌, List, [], ◌∷◌, ◌++◌, length, take, drop, replicate, refl, ap, ◌∙◌, arith}
 use Rattle.std.specs.Prelude.{fold, slice_range}
 use Rattle.std.proofs.lemmas.List.{length-replicate}
 use Rattle.std.proofs.lemmas.List.FromFn.{get_or-map-range_with_len}
 use Rattle.std.proofs.lemmas.List.Sums.{fold-append}
 use Rattle.wt_params.specs.declared.parts.MachineParts.{MachineParts}
 use Rattle.wt_params.specs.Machine.{IsMachine, home_of, shared_base}
-use Rattle.elf_image.specs.declared.image.Segment.{Segment}
 use Rattle.dir1sw.specs.declared.home.HomeBlock.{HomeBlock}
 use Rattle.dir1sw.specs.Homes.{block_of, count_of, fresh_block}
 use Rattle.image_loader.specs.Images.{LoadedImages}
@@ -27,9 +26,9 @@ module _ (loaded : LoadedImages) (are : AreLoaded loaded) (low : loaded.private_
       let served = is_served loaded n are (omega arith) in
       let next : suc n ≡ n + 1 = omega arith in
       ap (λ (count : ℕ). length (with_segments shared_base (shared_bytes loaded) (segments_below loaded count))) next
-      ∙ ap (λ (segments : List Segment). length (with_segments shared_base (shared_bytes loaded) segments)) (segments_of_next loaded n)
+      ∙ ap (λ segments. length (with_segments shared_base (shared_bytes loaded) segments)) (segments_of_next loaded n)
       ∙ ap length (fold-append (with_segment shared_base) (replicate (shared_bytes loaded) 0) (segments_below loaded n) (segments_of loaded n))
-      ∙ ap (λ (segments : List Segment). length (fold (with_segment shared_base) (with_segments shared_base (shared_bytes loaded) (segments_below loaded n)) segments)) (segments_of_image loaded n served.image served.found)
+      ∙ ap (λ segments. length (fold (with_segment shared_base) (with_segments shared_base (shared_bytes loaded) (segments_below loaded n)) segments)) (segments_of_image loaded n served.image served.found)
       ∙ length-with_segments loaded.private_bytes (shared_bytes loaded) low shared_base (shared_bytes loaded) (ends_in_shared loaded.private_bytes (shared_bytes loaded) low)
       (with_segments shared_base (shared_bytes loaded) (segments_below loaded n)) served.image.segments (shared_below n (omega arith)) served.program.placed served.program.bytes
 
@@ -40,8 +39,8 @@ module _ (loaded : LoadedImages) (are : AreLoaded loaded) (low : loaded.private_
 
 take_two : {X : Type 0} (xs : List X) (n m : ℕ) → take n xs ++ take m (drop n xs) ≡ take (n + m) xs
 take_two xs zero m = ap (λ (k : ℕ). take k xs) (let e : m ≡ 0 + m = omega arith in e)
-take_two [] (suc n) zero = ap (λ (k : ℕ). take {A = X} k []) (let e : suc n ≡ suc n + 0 = omega arith in e)
-take_two [] (suc n) (suc m) = ap (λ (k : ℕ). take {A = X} k []) (let e : suc (n + suc m) ≡ suc n + suc m = omega arith in e)
+take_two {X = X} [] (suc n) zero = ap (λ (k : ℕ). take {A = X} k []) (let e : suc n ≡ suc n + 0 = omega arith in e)
+take_two {X = X} [] (suc n) (suc m) = ap (λ (k : ℕ). take {A = X} k []) (let e : suc (n + suc m) ≡ suc n + suc m = omega arith in e)
 take_two (x ∷ xs) (suc n) m =
     ap (λ ys. x ∷ ys) (take_two xs n m) ∙ ap (λ (k : ℕ). take k (x ∷ xs)) (let e : suc (n + m) ≡ suc n + m = omega arith in e)
 
@@ -61,5 +60,5 @@ module _ (machine : MachineParts) (loaded : LoadedImages) (is : IsMachine machin
   memory_at_home block exists =
       ap (λ (home : HomeBlock). home.memory)
       (get_or-map-range_with_len (λ place. block_at_start machine loaded (block_at machine (home_of machine block) place)) 0 (count_of machine (home_of machine block)) (block / machine.nodes) (block / machine.nodes) (fresh_block machine)
-        (place_inside machine block (home_of machine block) is exists refl) (omega arith)
-        ∙ ap (block_at_start machine loaded) (place_of_block block))
+      (place_inside machine block (home_of machine block) is exists refl) (omega arith)
+      ∙ ap (block_at_start machine loaded) (place_of_block block))

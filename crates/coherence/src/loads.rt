@@ -74,7 +74,7 @@ fn reads(word: Option<u32>, memory: &[u8], address: u32, value: u32) -> bool
 {
     match load_in(word) {
         None => false,
-        Some(op) => loaded(op, memory, address) == value,
+        Some(op) => value_of_load(op, memory, address) == value,
     }
 }
 
@@ -92,7 +92,7 @@ fn load_in(word: Option<u32>) -> Option<LoadOp>
 }
 
 /// What a load reads from shared memory.
-fn loaded(op: LoadOp, memory: &[u8], address: u32) -> u32
+fn value_of_load(op: LoadOp, memory: &[u8], address: u32) -> u32
     requires { shared_base ≤ address }
     ensures { result ≡ widened op (little_endian (bytes_from memory.now (address - shared_base) (load_width_of op))) }
 {
@@ -123,7 +123,11 @@ fn number_at(memory: &[u8], place: usize, width: u32) -> u32
 fn byte_at(memory: &[u8], place: usize) -> u8
     ensures { result ≡ slice_index memory.now place }
 {
-    if place < memory.len() { memory[place] } else { 0 }
+    if place < memory.len() {
+        memory[place]
+    } else {
+        0
+    }
 }
 
 /// The word of the record at a place: of a message, that of the last step of its node.
@@ -160,7 +164,12 @@ fn last_word(log: &NodeLog, place: u64, node: u32) -> Option<u32>
 fn keep(memory: &mut [u8], deed: &Deed)
     ensures { memory.new ≡ stored_by deed.now memory.old }
 {
-    if let Deed::Stored { address, width, value } = *deed {
+    if let Deed::Stored {
+        address,
+        width,
+        value,
+    } = *deed
+    {
         if address >= SHARED_BASE {
             store(memory, (address - SHARED_BASE) as usize, width, value);
         }

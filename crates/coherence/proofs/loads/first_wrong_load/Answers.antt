@@ -1,10 +1,9 @@
-use Rattle.std.proofs.Common.{◌≡◌, ℕ, ◌+◌, ◌-◌, ◌<◌, ◌≤◌, List, [], ◌∷◌, Some, None, length, drop, refl, ap, sym, ◌∙◌, arith, if◌then◌else◌, true, false, Bool}
-use Rattle.std.specs.Prelude.{slice_get, Option}
+use Rattle.std.proofs.Common.{◌≡◌, ℕ, ◌+◌, List, Some, None, drop, ap, sym, ◌∙◌, if◌then◌else◌, true, false}
+use Rattle.std.specs.Prelude.{slice_get}
 use Rattle.std.specs.Option.{option_copied}
-use Rattle.std.proofs.lemmas.Option.{slice_get_within}
 use Rattle.wt_trace.specs.declared.record.Record.{Record}
 use Rattle.coherence.specs.Traces.{Known, word_of, after_record, first_wrong, is_right, is_right_deed, stored_by}
-use Rattle.coherence.specs.Loads.{known_first, known_before}
+use Rattle.coherence.specs.Loads.{known_before}
 use Rattle.coherence.proofs.Known.{known_next, left_next, none_left}
 use Rattle.coherence.proofs.loads.first_wrong_load.Goals as goal
 

@@ -1,10 +1,9 @@
-use Rattle.std.proofs.Common.{◌≡◌, ℕ, ◌+◌, ◌-◌, ◌<◌, ◌≤◌, ◌==◌, List, Some, None, length, ap, sym, ◌∙◌, arith, if◌then◌else◌, true, false}
+use Rattle.std.proofs.Common.{◌≡◌, ℕ, ◌+◌, ◌-◌, ◌<◌, List, Some, None, length, ap, sym, ◌∙◌, arith, if◌then◌else◌}
 use Rattle.std.specs.Prelude.{slice_get, Option}
 use Rattle.std.specs.Option.{option_copied}
-use Rattle.std.proofs.lemmas.Bool.{eqb-true, eq-eqb, ne_eqb}
+use Rattle.std.proofs.lemmas.Bool.{eq-eqb, ne_eqb}
 use Rattle.std.proofs.lemmas.Option.{slice_get_cases}
 use Rattle.wt_trace.specs.declared.record.Record.{Record}
-use Rattle.wt_trace.specs.declared.record.What.{What}
 use Rattle.wt_trace.specs.declared.record.What.TheVariants.{Step, Message}
 use Rattle.wt_proto.specs.declared.message.Msg.{Msg}
 use Rattle.coherence.specs.Traces.{Known, word_of, after_record}
@@ -44,8 +43,8 @@ returns-in-Step c = λ start.
     let item = c.in-Some.item.now in
     let at : slice_get log (i - 1) ≡ Some item = sym c.get.ensures ∙ ap option_copied c.in-Some.is in
     sym (c.loop-i.invariant.word start
-      ∙ ap (λ (k : Known). k.word c.args.node) (known_after start log i item c.loop-i-test.true at)
-      ∙ by_step (known_before start log (i - 1)) item c.args.node c.in-Step.pc c.in-Step.word c.if-item-node.true c.in-Step.is)
+    ∙ ap (λ (k : Known). k.word c.args.node) (known_after start log i item c.loop-i-test.true at)
+    ∙ by_step (known_before start log (i - 1)) item c.args.node c.in-Step.pc c.in-Step.word c.if-item-node.true c.in-Step.is)
 
 pub loop-i-preserved-in_default-what : goal.loop-i-preserved-in_default-what
 loop-i-preserved-in_default-what c =
