@@ -14,6 +14,8 @@ mod interleavings;
 #[cfg(test)]
 mod listings;
 #[cfg(test)]
+mod loads;
+#[cfg(test)]
 mod reports;
 #[cfg(test)]
 mod stations;
