@@ -18,7 +18,7 @@ use Rattle.discrete_events.specs.Serial.{placed, taken, node_after}
 use Rattle.discrete_events.specs.Laws.{IsIn}
 use Rattle.discrete_events.proofs.Lists.{all_in, from_map, in_map}
 use Rattle.node.specs.declared.state.NodeState.{NodeState}
-use Rattle.node.specs.React.{message_under_key, wind_tunnel}
+use Rattle.node.specs.React.{message_under_key, wind_tunnel, record_of}
 use Rattle.coherence.specs.Pipes.{not_from_home_of}
 use Rattle.coherence.specs.Block.{Cell, Home, View}
 use Rattle.coherence.specs.Facts.{NodeFacts, asks_at_home, wakes_due, IsCoherent}
@@ -26,7 +26,7 @@ use Rattle.coherence.specs.Laws.{steps_of}
 use Rattle.coherence.specs.Entries.{kept_of, wake_in}
 use Rattle.coherence.specs.Lines.{line, goes_from, comes_to, bodies}
 use Rattle.coherence.specs.Steps.{with_cell}
-use Rattle.coherence.specs.Deals.{cell_of, is_for_home, sent_home, said, as_step, all_dealt, MayDealAll, DealsWith, AreStepsAt}
+use Rattle.coherence.specs.Deals.{cell_of, is_for_home, sent_home, said, as_step, all_dealt, MayDealAll, DealsWith, stores_to, AreStepsAt}
 use Rattle.coherence.specs.Sends.{is_of_home, IsNotOfHome}
 use Rattle.coherence.specs.Worlds.{World, under_way, to_home_in, from_home_in, cell_by, cell_in, is_wake, view_in, IsCoherentBlock, AreRight}
 use Rattle.coherence.proofs.Steps.{steps_keep}
@@ -116,7 +116,7 @@ module _ (machine : MachineParts) (is : IsMachine machine) (world : World) (ok :
 
   -- of a block: what its node deals, and that the lines of others stay
   pub record IsDealt (block : ℕ) : Type 0 where
-    pub deals : DealsWith (cell_of block (to_home_in world block it.number) (from_home_in world block it.number) it)
+    pub deals : DealsWith (stores_to machine (record_of machine it event).deed block) (cell_of block (to_home_in world block it.number) (from_home_in world block it.number) it)
         (cell_of block (to_home_in world block it.number ++ sent_home block (said its_sends)) (bodies (line (comes_to block it.number) left)) then)
     pub homes : (number : ℕ) → line (goes_from block number) left ≡ under_way (goes_from block number) world
     pub others : (number : ℕ) → (number == it.number) ≡ false → line (comes_to block number) left ≡ under_way (comes_to block number) world

@@ -15,11 +15,11 @@ use Rattle.discrete_events.specs.Simulation.{Step, Arrival, Message}
 use Rattle.discrete_events.specs.World.{least, events_in}
 use Rattle.discrete_events.specs.Serial.{placed, taken, node_after}
 use Rattle.node.specs.declared.state.NodeState.{NodeState}
-use Rattle.node.specs.React.{wind_tunnel}
+use Rattle.node.specs.React.{wind_tunnel, record_of}
 use Rattle.coherence.specs.Pipes.{not_to_home_of, not_from_home_of}
 use Rattle.coherence.specs.Entries.{wake_in}
 use Rattle.coherence.specs.Lines.{line, goes_from, comes_to, bodies}
-use Rattle.coherence.specs.Deals.{cell_of, is_from_home, body_if, sent_home, said, wanted_in, DealsWith, IsWantedIn}
+use Rattle.coherence.specs.Deals.{cell_of, is_from_home, body_if, sent_home, said, wanted_in, DealsWith, stores_to, IsWantedIn}
 use Rattle.coherence.specs.RowDeals.{is_for_directory}
 use Rattle.coherence.specs.Worlds.{World, under_way, to_home_in, from_home_in, cell_by, is_wake, view_in, IsCoherentBlock, AreRight}
 use Rattle.coherence.proofs.StepDeals.{steps_deal_law}
@@ -156,7 +156,7 @@ module _ (machine : MachineParts) (is : IsMachine machine) (world : World) (ok :
 
       message_dealt : ((block : ℕ) → block < machine.blocks → IsCoherentBlock machine world block) → (block : ℕ) → IsDealt machine is world ok key (Arrival message) is_least block
       message_dealt before block = record {
-        deals = subst (λ (down : List Body). DealsWith (cell_of block (to_home_in world block it.number) down it)
+        deals = subst (λ (down : List Body). DealsWith (stores_to machine (record_of machine it (Arrival message)).deed block) (cell_of block (to_home_in world block it.number) down it)
             (cell_of block (to_home_in world block it.number ++ sent_home block (said (sends machine is world ok key (Arrival message) is_least))) (bodies (line (comes_to block it.number) left)) (after machine is world ok key (Arrival message) is_least)))
             (sym (down_is block))
             (messages_deal_law machine it message.0 message.1 block (to_home_in world block it.number) (bodies (line (comes_to block it.number) left))
