@@ -1,6 +1,6 @@
 -- What an event of a node does with the bytes of shared memory: a load reads those of its copy, a store changes them, and
 -- a processor that waits goes on with the word that it was at. Own.
-use Rattle.std.specs.Prelude.{◌≡◌, ⊤, ℕ, ◌+◌, ◌≤◌, ◌==◌, Bool, true, false, List, length, slice_range, Option, Some, None, IfSome}
+use Rattle.std.specs.Prelude.{◌≡◌, ⊤, ℕ, ◌+◌, ◌≤◌, Bool, true, List, length, slice_range, Option, Some, IfSome}
 use Rattle.wt_params.specs.declared.parts.MachineParts.{MachineParts}
 use Rattle.wt_params.specs.Machine.{shared_block}
 use Rattle.rv_decode.specs.declared.instr.LoadOp.{LoadOp}
@@ -14,7 +14,7 @@ use Rattle.wt_proto.specs.declared.mode.Mode.TheVariants.{Running, Waiting}
 use Rattle.wt_trace.specs.declared.record.Deed.{Deed}
 use Rattle.wt_trace.specs.declared.record.Deed.TheVariants.{Loaded, Stored}
 use Rattle.target_cache.specs.Cached.{Cached}
-use Rattle.discrete_events.specs.Simulation.{Event, Step, Arrival}
+use Rattle.discrete_events.specs.Simulation.{Step, Arrival}
 use Rattle.node.specs.declared.state.NodeState.{NodeState}
 use Rattle.node.specs.Processor.{fetch_of}
 use Rattle.node.specs.React.{react, record_of}
