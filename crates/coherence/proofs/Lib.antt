@@ -31,3 +31,5 @@ pub mod WorldSteps
 pub mod WorldRuns
 pub mod WorldStart
 pub mod WorldSerial
+pub mod Bytes
+pub mod WorldValues

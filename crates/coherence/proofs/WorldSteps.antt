@@ -1,5 +1,5 @@
 -- Each event of the serial run leaves the blocks of the world coherent.
-use Rattle.std.proofs.Common.{◌≡◌, ℕ, ◌<◌, inl, inr, Bool, true, false, List, ◌∷◌, ◌++◌, length, map, Option, Some, refl, ap, sym, ◌∙◌, subst, arith}
+use Rattle.std.proofs.Common.{◌≡◌, ℕ, ◌<◌, inl, inr, Bool, true, false, List, [], ◌∷◌, ◌++◌, length, map, Option, Some, refl, ap, sym, ◌∙◌, subst, arith}
 use Rattle.std.specs.Prelude.{◌==◌}
 use Rattle.std.proofs.lemmas.Bool.{cases_Bool, eqb-true, eq-eqb}
 use Rattle.std.specs.FinMap.{entries}
@@ -60,9 +60,11 @@ first_carries value view number exclusive bytes rest has front =
     (subst (λ (down : List Body). AllCarry value ((view.cell number).to_home ++ held (view.cell number).copy ++ down)) front (has.copies number)))
   where
     carried : (up mine : List Body) → AllCarry value (up ++ mine ++ grant_body exclusive bytes ∷ rest) → Carries value (grant_body exclusive bytes)
-    carried [] [] all = all.0
-    carried [] (first ∷ more) all = carried [] more all.1
-    carried (first ∷ more) mine all = carried more mine all.1
+    carried up mine all = behind (up ++ mine) all
+      where
+        behind : (before : List Body) → AllCarry value (before ++ grant_body exclusive bytes ∷ rest) → Carries value (grant_body exclusive bytes)
+        behind [] a = a.0
+        behind (first ∷ more) a = behind more a.1
 
     by : (x : Bool) → Carries value (grant_body x bytes) → bytes ≡ value
     by true is = is
