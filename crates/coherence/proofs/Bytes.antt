@@ -1,7 +1,7 @@
 -- The bytes of the blocks of shared memory: where an access lies in them, and what a store leaves of them.
-use Rattle.std.proofs.Common.{◌≡◌, ◌≢◌, ℕ, zero, suc, ◌+◌, ◌-◌, ◌*◌, ◌/◌, ◌%◌, ◌<◌, ◌≤◌, Bool, true, false, List, [], ◌∷◌, ◌++◌, length, take, drop, replicate, Option, Some, None, refl, ap, sym, ◌∙◌, subst, inl, inr, arith, mod-lt, take-take, drop-drop, length-append, length-take, length-drop}
+use Rattle.std.proofs.Common.{◌≡◌, ◌≢◌, ℕ, zero, suc, ◌+◌, ◌-◌, ◌*◌, ◌/◌, ◌%◌, ◌<◌, ◌≤◌, Bool, true, false, List, [], ◌∷◌, ◌++◌, length, take, drop, replicate, Some, None, refl, ap, sym, ◌∙◌, subst, inl, inr, arith, mod-lt, take-take, drop-drop, length-append, length-take, length-drop}
 use Rattle.std.specs.Prelude.{if◌then◌else◌, fold, slice_range, nat_le, nat_lt, ◌&&◌}
-use Rattle.std.proofs.lemmas.Bool.{cases_Bool, cases_lt}
+use Rattle.std.proofs.lemmas.Bool.{cases_lt}
 use Rattle.std.proofs.lemmas.Bool.Decides.{nat_tests}
 use Rattle.std.proofs.lemmas.List.{drop-take, length-take-le, take-append-le, length-replicate}
 use Rattle.std.proofs.lemmas.List.Sums.{fold-append}
@@ -261,10 +261,3 @@ module _ (loaded : LoadedImages) (are : AreLoaded loaded) (low : loaded.private_
 
 pub start_bytes : (machine : MachineParts) (loaded : LoadedImages) → IsFor machine loaded → (block : ℕ) → bytes_of machine (shared_of loaded) block ≡ block_of loaded block
 start_bytes machine loaded for block = ap (λ (n : ℕ). slice_range (shared_of loaded) (block * n) (block * n + n)) (sym for.block_bytes)
-
-module _ (machine : MachineParts) (is : IsMachine machine) (memory : List ℕ) (size : length memory ≡ machine.blocks * machine.block_bytes) (loaded : LoadedImages) (are : AreLoaded loaded) (low : loaded.private_bytes ≤ shared_base) where
-  try_one : (block : ℕ) → block < machine.blocks → length (bytes_of machine memory block) ≡ machine.block_bytes
-  try_one = bytes_size machine is memory size
-
-  try_two : length (shared_of loaded) ≡ loaded.blocks * loaded.block_bytes
-  try_two = start_size loaded are low
