@@ -12,7 +12,7 @@ pub mod Built
 pub mod Called
 pub mod Meetings
 pub mod Values
-pub mod Copies
+pub mod CacheCopies
 pub mod Deals
 pub mod StepDeals
 pub mod RowSends
@@ -27,3 +27,5 @@ pub mod WorldEvents
 pub mod WorldDeals
 pub mod WorldRows
 pub mod WorldSteps
+pub mod Firsts
+pub mod WhoHolds

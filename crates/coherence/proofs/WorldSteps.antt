@@ -1,19 +1,17 @@
 -- Each event of the serial run leaves the blocks of the world coherent.
-use Rattle.std.proofs.Common.{◌≡◌, ◌≢◌, ℕ, ◌+◌, ◌<◌, ◌≤◌, ◌⊎◌, inl, inr, Bool, true, false, List, [], ◌∷◌, ◌++◌, length, map, Option, Some, None, refl, ap, sym, ◌∙◌, subst, arith}
-use Rattle.std.specs.Prelude.{◌==◌, ◌&&◌, IfSome}
-use Rattle.std.specs.List.{AllByRecursion}
-use Rattle.std.proofs.lemmas.Bool.{cases_Bool, eqb-true, eq-eqb, ne_eqb}
-use Rattle.std.specs.FinMap.{get, entries}
+use Rattle.std.proofs.Common.{◌≡◌, ℕ, ◌<◌, inl, inr, Bool, true, false, List, ◌∷◌, ◌++◌, length, map, Option, Some, refl, ap, sym, ◌∙◌, subst, arith}
+use Rattle.std.specs.Prelude.{◌==◌}
+use Rattle.std.proofs.lemmas.Bool.{cases_Bool, eqb-true, eq-eqb}
+use Rattle.std.specs.FinMap.{entries}
 use Rattle.wt_params.specs.declared.parts.MachineParts.{MachineParts}
-use Rattle.wt_params.specs.Machine.{IsMachine, home_of}
+use Rattle.wt_params.specs.Machine.{IsMachine}
 use Rattle.wt_proto.specs.declared.key.Key.{Key}
 use Rattle.wt_proto.specs.declared.message.Body.{Body}
 use Rattle.wt_proto.specs.declared.message.Body.TheVariants.{GetS, GetX, PutS, PutX, DataS, DataX, Inv, InvAck, Wake, Arrive, Leave, Go}
 use Rattle.wt_proto.specs.declared.message.Msg.{Msg}
-use Rattle.wt_proto.specs.declared.message.Stamped.{Stamped}
-use Rattle.wt_proto.specs.Messages.{BlockFits, data_of}
+use Rattle.wt_proto.specs.Messages.{BlockFits}
 use Rattle.dir1sw.specs.Table.{grant_body}
-use Rattle.discrete_events.specs.Simulation.{Event, Step, Arrival, Message}
+use Rattle.discrete_events.specs.Simulation.{Step, Arrival, Message}
 use Rattle.discrete_events.specs.World.{least, events_in}
 use Rattle.discrete_events.specs.Serial.{placed, taken, node_after}
 use Rattle.node.specs.declared.state.NodeState.{NodeState}
@@ -23,8 +21,7 @@ use Rattle.coherence.specs.Entries.{wake_in}
 use Rattle.coherence.specs.Lines.{line, goes_from, comes_to, bodies}
 use Rattle.coherence.specs.Deals.{cell_of, is_from_home, body_if, sent_home, said, wanted_in, DealsWith, IsWantedIn}
 use Rattle.coherence.specs.RowDeals.{is_for_directory}
-use Rattle.coherence.specs.Moves.{comes_from_home}
-use Rattle.coherence.specs.Worlds.{World, under_way, to_home_in, from_home_in, cell_by, cell_in, is_wake, view_in, IsCoherentBlock, AreRight}
+use Rattle.coherence.specs.Worlds.{World, under_way, to_home_in, from_home_in, cell_by, is_wake, view_in, IsCoherentBlock, AreRight}
 use Rattle.coherence.proofs.StepDeals.{steps_deal_law}
 use Rattle.coherence.proofs.MessageDeals.{messages_deal_law}
 use Rattle.coherence.proofs.Moves.{events_move_law}
@@ -33,7 +30,7 @@ use Rattle.coherence.proofs.Strays.{nothing_stray}
 use Rattle.coherence.proofs.Placed.{line_taken}
 use Rattle.coherence.proofs.WorldEvents.{IsWorldOf, node_is, two_true, goes_from_is, comes_to_is, at, sound, sends, news, after, step_now}
 use Rattle.coherence.proofs.WorldDeals.{IsDealt, dealt_block}
-use Rattle.coherence.proofs.WorldRows.{cell_down, to_is, fits, goes, stays, there, first_there, every_block, none_stray_of_row}
+use Rattle.coherence.proofs.WorldRows.{cell_down, to_is, fits, stays, there, first_there}
 
 -- what isn't for the directory isn't for a home, and no Wake
 not_for_directory : (body : Body) → is_for_directory body ≡ false → (not_to_home_of body ≡ 1) × (wake_in body ≡ 0)

@@ -13,3 +13,4 @@ pub mod RowDeals
 pub mod Moves
 pub mod Sends
 pub mod Worlds
+pub mod Copies

@@ -6,12 +6,16 @@
 #![tactic(auto)]
 
 mod block;
+mod breaches;
 mod events;
+mod holders;
 
 pub use block::{
     lines_keep_order, meetings_are_orderly, nothing_is_stray, one_writer, rows_are_built,
     rows_are_steps, runs_are_coherent, start_is_coherent, steps_keep_facts, values_are_kept,
 };
+pub use breaches::{Breach, check_copies, copies};
 pub use events::{
     deals_are_steps, events_move, messages_deal, rows_deal, sends_are_right, steps_deal,
 };
+pub use holders::Copies;

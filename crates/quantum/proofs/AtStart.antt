@@ -17,7 +17,7 @@ use Rattle.node.proofs.StartKept.{start_is_sound}
 use Rattle.quantum.specs.World.{start_of}
 use Rattle.quantum.specs.Starts.{IsWorldOf, StartsAreWorlds}
 
-below_end : (from count : ℕ) (k : ℕ) → IsIn k (range_with_len from count) → k < from + count
+pub below_end : (from count : ℕ) (k : ℕ) → IsIn k (range_with_len from count) → k < from + count
 below_end from zero k is = absurd is
 below_end from (suc count) k (inl e) = omega arith
 below_end from (suc count) k (inr h) = let more = below_end (from + 1) count k h in omega arith

@@ -6,3 +6,4 @@ pub mod FreeRuns
 pub mod Sites
 pub mod Sole
 pub mod Starts
+pub mod Machines

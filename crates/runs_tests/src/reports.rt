@@ -1,6 +1,6 @@
 ghost use Rattle.std.specs.Prelude.{◌≡◌, IfOk};
 ghost use Rattle.image_loader.specs.Images.{IsFor};
-ghost use Rattle.wt_report.specs.Stations.{AreStationsOf};
+ghost use Rattle.quantum.specs.Machines.{AreStationsOf};
 
 use image_loader::Loaded;
 use quantum::Station;

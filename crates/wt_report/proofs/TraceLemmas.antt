@@ -11,7 +11,7 @@ use Rattle.wt_trace.specs.EventLine.{RecordFits}
 use Rattle.node.specs.declared.state.NodeState.{NodeState}
 use Rattle.quantum.specs.Stations.{StationModel, IsUnbroken, IsLive}
 use Rattle.wt_report.specs.Report.{logs_of}
-use Rattle.wt_report.specs.Stations.{IsStationOf, AreStationsOf, node_of, nodes_of}
+use Rattle.quantum.specs.Machines.{IsStationOf, AreStationsOf, node_of, nodes_of}
 use Rattle.wt_report.proofs.StationLemmas.{mapped_twice}
 use Rattle.wt_trace.proofs.StableSorts.{all_of_each}
 

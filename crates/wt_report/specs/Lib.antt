@@ -1,4 +1,3 @@
 pub mod Memory
 pub mod Report
-pub mod Stations
 pub mod Trace

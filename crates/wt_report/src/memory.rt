@@ -1,7 +1,7 @@
 ghost use Rattle.std.specs.Prelude.{◌≡◌, ◌+◌, ◌^◌, ◌/◌, ◌<◌, ◌≤◌, ◌++◌, ◌==◌, length, flat_map, IfOk, OnOk};
 ghost use Rattle.std.specs.List.{enumerate_from, list_all};
 ghost use Rattle.wt_report.specs.Memory.{group_line_of, group_of, group_text, groups_text, memory_text, node_memory_text, private_name, private_text, registers_line_of, registers_text};
-ghost use Rattle.wt_report.specs.Stations.{AreStationsOf, IsStationOf, nodes_of, node_of};
+ghost use Rattle.quantum.specs.Machines.{AreStationsOf, IsStationOf, nodes_of, node_of};
 ghost use Rattle.wt_outside.specs.Writes.{Writes};
 
 use crate::shared::write_shared;

@@ -3,7 +3,7 @@ ghost use Rattle.node.specs.Laws.{IsWhole};
 ghost use Rattle.node.specs.Sound.{WaitsForABlock};
 ghost use Rattle.node.specs.State.{step_time};
 ghost use Rattle.wt_report.specs.Report.{state_text, processor_text, output_text, node_line_of, count_line_of, out_line_of, node_text, nodes_text};
-ghost use Rattle.wt_report.specs.Stations.{AreStationsOf, IsStationOf, nodes_of, node_of};
+ghost use Rattle.quantum.specs.Machines.{AreStationsOf, IsStationOf, nodes_of, node_of};
 ghost use Rattle.wt_outside.specs.Writes.{Writes};
 
 use crate::total::sums;

@@ -1,6 +1,6 @@
 ghost use Rattle.wt_report.specs.Memory.{memory_text};
 ghost use Rattle.wt_report.specs.Report.{body_text, if_asked, report, rest_text, trace_text};
-ghost use Rattle.wt_report.specs.Stations.{AreStationsOf, nodes_of};
+ghost use Rattle.quantum.specs.Machines.{AreStationsOf, nodes_of};
 ghost use Rattle.wt_outside.specs.Writes.{Writes};
 
 use crate::head::write_head;

@@ -3,7 +3,7 @@ ghost use Rattle.wt_params.specs.Machine.{home_of};
 ghost use Rattle.dir1sw.specs.Homes.{block_of};
 ghost use Rattle.quantum.specs.Stations.{IsUnbroken, machine_of};
 ghost use Rattle.wt_report.specs.Memory.{block_text, first_copy, home_memory, shared_text, writable_copy};
-ghost use Rattle.wt_report.specs.Stations.{AreStationsOf, IsStationOf, node_of, nodes_of};
+ghost use Rattle.quantum.specs.Machines.{AreStationsOf, IsStationOf, node_of, nodes_of};
 ghost use Rattle.wt_outside.specs.Writes.{Writes};
 
 use crate::memory::write_groups;

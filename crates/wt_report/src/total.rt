@@ -1,6 +1,6 @@
 ghost use Rattle.std.specs.Prelude.{◌≡◌, ◌++◌, map, IfOk, OnOk};
 ghost use Rattle.wt_report.specs.Report.{counters_of, counts_text, totals_text, total_line_of};
-ghost use Rattle.wt_report.specs.Stations.{nodes_of};
+ghost use Rattle.quantum.specs.Machines.{nodes_of};
 ghost use Rattle.wt_outside.specs.Writes.{Writes};
 
 use crate::write::write_line;

@@ -3,7 +3,7 @@ ghost use Rattle.wt_trace.specs.EventLine.{RecordFits, line_of};
 ghost use Rattle.wt_trace.specs.Merged.{merge_of};
 ghost use Rattle.quantum.specs.Stations.{IsLive, IsUnbroken};
 ghost use Rattle.wt_report.specs.Report.{logs_of, trace_text};
-ghost use Rattle.wt_report.specs.Stations.{AreStationsOf, nodes_of};
+ghost use Rattle.quantum.specs.Machines.{AreStationsOf, nodes_of};
 ghost use Rattle.wt_report.specs.Trace.{TraceIsSerial};
 ghost use Rattle.wt_outside.specs.Writes.{Writes};
 

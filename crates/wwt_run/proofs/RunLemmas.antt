@@ -20,7 +20,7 @@ use Rattle.wt_outside.specs.Views.{SinkView}
 use Rattle.wt_outside.proofs.WriteLemmas.{writes_same}
 use Rattle.wt_report.specs.Report.{logs_of, report}
 use Rattle.wt_outside.specs.Writes.{Writes}
-use Rattle.wt_report.specs.Stations as places
+use Rattle.quantum.specs.Machines as places
 use Rattle.wt_report.proofs.TraceOrder.{trace_is_serial}
 use Rattle.wwt_run.specs.Jobs.{AreInSerialOrder, IsAtEnd, final_of, out_of, output_of_run, status_of_run}
 use Rattle.wwt_run.specs.Status.{status_after_of, status_of_world}

@@ -6,7 +6,7 @@ use Rattle.discrete_events.specs.Core.{Station}
 use Rattle.node.specs.declared.state.NodeState.{NodeState}
 use Rattle.node.specs.Start.{start_node}
 use Rattle.quantum.specs.Stations.{StationModel, IsUnbroken, machine_of, station_at_start, station_of}
-use Rattle.wt_report.specs.Stations.{AreStationsOf, IsStationOf}
+use Rattle.quantum.specs.Machines.{AreStationsOf, IsStationOf}
 use Rattle.runs_tests.proofs.reports.stations_of.Goals as goal
 
 module _ (machine : MachineParts) (loaded : LoadedImages) (traced : Bool) (station : StationModel) (start : station_of station ≡ station_at_start machine loaded traced 0) where

@@ -1,5 +1,5 @@
 use Rattle.wt_report.specs.Memory.{shared_text}
-use Rattle.wt_report.specs.Stations.{nodes_of}
+use Rattle.quantum.specs.Machines.{nodes_of}
 use Rattle.wt_outside.proofs.WriteLemmas.{writes_handed_on, writes_stopped, writes_then, written_by}
 use Rattle.wt_report.proofs.memory.write_memory.Goals as goal
 

@@ -3,7 +3,7 @@ use Rattle.std.specs.List.{enumerate_from}
 use Rattle.std.proofs.lemmas.List.{length-map}
 use Rattle.std.proofs.lemmas.List.FromFn.{length-enumerate_from}
 use Rattle.wt_report.specs.Memory.{node_memory_text}
-use Rattle.wt_report.specs.Stations.{node_of, nodes_of}
+use Rattle.quantum.specs.Machines.{node_of, nodes_of}
 use Rattle.wt_report.proofs.StationLemmas.{numbered_in}
 use Rattle.wt_outside.proofs.WriteLemmas.{writes_all, writes_handed_on, writes_until, written_more}
 use Rattle.wt_report.proofs.memory.write_own.Goals as goal

@@ -1,7 +1,7 @@
 use Rattle.std.proofs.Common.{take, flat_map}
 use Rattle.std.specs.List.{enumerate_from}
 use Rattle.wt_report.specs.Memory.{node_memory_text}
-use Rattle.wt_report.specs.Stations.{nodes_of}
+use Rattle.quantum.specs.Machines.{nodes_of}
 use Rattle.wt_outside.proofs.WriteLemmas.{HasWritten}
 use Rattle.wt_report.proofs.memory.write_own.Given as goal
 

@@ -1,6 +1,6 @@
 use Rattle.wt_report.specs.Memory.{memory_text}
 use Rattle.wt_report.specs.Report.{if_asked, nodes_text, total_line_of}
-use Rattle.wt_report.specs.Stations.{nodes_of}
+use Rattle.quantum.specs.Machines.{nodes_of}
 use Rattle.wt_outside.proofs.WriteLemmas.{writes_handed_on, writes_stopped, writes_then, written_by, written_then}
 use Rattle.wt_report.proofs.report.write_body.Goals as goal
 

@@ -1,6 +1,6 @@
 use Rattle.std.proofs.Common.{sym, arith}
 use Rattle.wt_report.specs.Memory.{writable_copy}
-use Rattle.wt_report.specs.Stations.{node_of}
+use Rattle.quantum.specs.Machines.{node_of}
 use Rattle.wt_report.proofs.StationLemmas.{first_found, none_found, none_more}
 use Rattle.wt_report.proofs.shared.first_copy.Goals as goal
 

@@ -1,7 +1,7 @@
 use Rattle.std.proofs.Common.{◌≡◌, [], take}
 use Rattle.std.specs.List.{filter_map}
 use Rattle.wt_report.specs.Memory.{writable_copy}
-use Rattle.wt_report.specs.Stations.{nodes_of}
+use Rattle.quantum.specs.Machines.{nodes_of}
 use Rattle.wt_report.proofs.shared.first_copy.Given as goal
 
 -- None of the nodes so far holds a writable copy.

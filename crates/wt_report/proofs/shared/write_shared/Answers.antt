@@ -2,7 +2,7 @@ use Rattle.std.proofs.Common.{◌<◌, arith}
 use Rattle.std.specs.List.{range_with_len}
 use Rattle.std.proofs.lemmas.List.FromFn.{length-range_with_len}
 use Rattle.wt_report.specs.Memory.{block_text}
-use Rattle.wt_report.specs.Stations.{nodes_of}
+use Rattle.quantum.specs.Machines.{nodes_of}
 use Rattle.wt_report.proofs.TextLemmas.{number_at}
 use Rattle.wt_outside.proofs.WriteLemmas.{writes_all, writes_handed_on, writes_until, written_more}
 use Rattle.wt_report.proofs.shared.write_shared.Goals as goal

@@ -1,7 +1,7 @@
 use Rattle.std.proofs.Common.{take, flat_map}
 use Rattle.std.specs.List.{range_with_len}
 use Rattle.wt_report.specs.Memory.{block_text}
-use Rattle.wt_report.specs.Stations.{nodes_of}
+use Rattle.quantum.specs.Machines.{nodes_of}
 use Rattle.wt_outside.proofs.WriteLemmas.{HasWritten}
 use Rattle.wt_report.proofs.shared.write_shared.Given as goal
 

@@ -2,7 +2,7 @@ use Rattle.std.proofs.Common.{map, arith, ap, ◌∙◌}
 use Rattle.std.proofs.lemmas.List.{take_all}
 use Rattle.node.specs.declared.state.NodeState.{NodeState}
 use Rattle.quantum.specs.Stations.{StationModel}
-use Rattle.wt_report.specs.Stations.{node_of}
+use Rattle.quantum.specs.Machines.{node_of}
 use Rattle.wt_report.proofs.StationLemmas.{mapped_twice}
 use Rattle.wt_report.proofs.total.counters.Goals as goal
 

@@ -5,7 +5,7 @@ use Rattle.std.proofs.lemmas.List.Elements.{All-more}
 use Rattle.node.specs.Laws.{NodeModel}
 use Rattle.node.specs.declared.state.NodeState.{NodeState}
 use Rattle.quantum.specs.Stations.{StationModel, IsUnbroken, IsLive}
-use Rattle.wt_report.specs.Stations.{node_of}
+use Rattle.quantum.specs.Machines.{node_of}
 use Rattle.wt_report.proofs.StationLemmas.{mapped_more, mapped_twice}
 use Rattle.wt_report.proofs.trace.logs.Goals as goal
 

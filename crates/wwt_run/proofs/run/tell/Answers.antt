@@ -3,7 +3,7 @@ use Rattle.std.specs.Prelude.{All}
 use Rattle.engine.specs.Engine.{IsStationOf}
 use Rattle.wwt_run.proofs.RunLemmas.{are_stations, is_written, is_status}
 use Rattle.wt_outside.proofs.WriteLemmas.{writes_done, written_by}
-use Rattle.wt_report.specs.Stations as places
+use Rattle.quantum.specs.Machines as places
 use Rattle.wwt_run.proofs.run.tell.Goals as goal
 
 pub write_report-requires : goal.write_report-requires

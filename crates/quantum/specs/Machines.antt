@@ -1,4 +1,4 @@
--- The stations of a machine that is reported on. Own.
+-- The stations of a whole machine. Own.
 use Rattle.std.specs.Prelude.{◌≡◌, ℕ, ◌<◌, List, length, map, slice_index_or}
 use Rattle.wt_params.specs.declared.parts.MachineParts.{MachineParts}
 use Rattle.node.specs.declared.state.NodeState.{NodeState}
