@@ -25,7 +25,12 @@ pub mod Sends
 pub mod Unmarked
 pub mod WorldEvents
 pub mod WorldDeals
+pub mod WorldMeetings
 pub mod WorldRows
 pub mod WorldSteps
 pub mod Firsts
 pub mod WhoHolds
+pub mod NoBreach
+pub mod WorldRuns
+pub mod WorldStart
+pub mod WorldSerial

@@ -47,7 +47,7 @@ about_block : (nodes block : ℕ) (sends : List Stamped) → AllGoBack nodes blo
 about_block nodes block [] back = tt
 about_block nodes block (first ∷ rest) back = ((back.0.block, back.0.back), about_block nodes block rest back.1)
 
-place_inside : (machine : MachineParts) (block number : ℕ) → IsMachine machine → block < machine.blocks → home_of machine block ≡ number → block / machine.nodes < count_of machine number
+pub place_inside : (machine : MachineParts) (block number : ℕ) → IsMachine machine → block < machine.blocks → home_of machine block ≡ number → block / machine.nodes < count_of machine number
 place_inside machine block number is exists home = grind arith
 
 -- two blocks of one home stand at different places

@@ -1,17 +1,20 @@
 -- Who holds a block in a machine, and what breaches coherence there: a stray message, or a writer of a block beside
 -- another who holds it. Own.
-use Rattle.std.specs.Prelude.{ℕ, ◌<◌, ◌==◌, ◌&&◌, ◌||◌, not, Bool, true, false, List, ◌++◌, map, flat_map, slice_get, Option}
+use Rattle.std.specs.Prelude.{◌≡◌, ℕ, ◌<◌, ◌==◌, ◌&&◌, ◌||◌, not, Bool, true, false, List, ◌++◌, map, flat_map, slice_get, Option}
 use Rattle.std.specs.List.{filter, range_with_len}
 use Rattle.wt_params.specs.declared.parts.MachineParts.{MachineParts}
 use Rattle.block_tags.specs.declared.tag.Tag.{Tag}
 use Rattle.block_tags.specs.declared.tag.Tag.TheVariants.{Invalid, ReadOnly, Writable}
 use Rattle.target_cache.specs.Cached.{tag_of}
+use Rattle.image_loader.specs.Images.{LoadedImages, IsFor}
+use Rattle.image_loader.specs.Loading.{AreLoaded}
 use Rattle.node.specs.declared.state.NodeState.{NodeState}
 use Rattle.quantum.specs.Stations.{StationModel}
 use Rattle.quantum.specs.Machines.{AreStationsOf}
 use Rattle.coherence.specs.declared.holders.Copies.{Copies}
 use Rattle.coherence.specs.declared.breaches.Breach.{Breach}
 use Rattle.coherence.specs.declared.breaches.Breach.TheVariants.{Stray, Two}
+use Rattle.coherence.specs.Runs.{world_after}
 
 -- the stations of one machine, numbered from 0 in order, and a block of it
 pub record HaveBlock (stations : List StationModel) (block : ℕ) : Type 0 where
@@ -89,3 +92,14 @@ breaches_of machine nodes = strays nodes ++ twos machine nodes
 -- the first of them
 abbrev pub breach_of : MachineParts → List NodeState → Option Breach
 breach_of machine nodes = slice_get (breaches_of machine nodes) 0
+
+-- ---- of runs
+
+-- the nodes of a machine after so many events of its serial run from a start
+pub record AreOfSerialRun (machine : MachineParts) (nodes : List NodeState) : Type 0 where
+  pub loaded : LoadedImages
+  pub is_for : IsFor machine loaded
+  pub loads : AreLoaded loaded
+  pub traced : Bool
+  pub events : ℕ
+  pub nodes_are : nodes ≡ (world_after machine loaded traced events).nodes

@@ -14,3 +14,4 @@ pub mod Moves
 pub mod Sends
 pub mod Worlds
 pub mod Copies
+pub mod Runs

@@ -1,6 +1,6 @@
 ghost use Rattle.std.specs.Prelude.{◌≡◌, ◌<◌, slice_get};
 ghost use Rattle.quantum.specs.Machines.{AreStationsOf, nodes_of};
-ghost use Rattle.coherence.specs.Copies.{HaveBlock, beside, breach_of, copies_of, strays, twos, twos_of, writers_of};
+ghost use Rattle.coherence.specs.Copies.{AreOfSerialRun, HaveBlock, beside, breach_of, copies_of, strays, twos, twos_of, writers_of};
 
 use crate::holders::{Copies, is_beside, is_stray, writes};
 use quantum::Station;
@@ -28,8 +28,18 @@ pub fn copies(stations: &[Station], block: u32) -> Copies
 }
 
 /// The first breach of a machine: of the least node to which a stray message came, and else of the least block, writer
-/// and other node. None exactly where there is no breach.
+/// and other node. None exactly where there is no breach, and so always at the nodes of a world of a serial run.
 pub fn check_copies(machine: &Machine, stations: &[Station]) -> Option<Breach>
+    requires { AreStationsOf machine.now stations.now }
+    ensures first { result ≡ breach_of machine.now (nodes_of stations.now) }
+    ensures coherent { AreOfSerialRun machine.now (nodes_of stations.now) → result ≡ None }
+{
+    // So that the machine's numbers are known to be in their ranges.
+    prove!(machine.width() <= 256);
+    first_breach(machine, stations)
+}
+
+fn first_breach(machine: &Machine, stations: &[Station]) -> Option<Breach>
     requires { AreStationsOf machine.now stations.now }
     ensures { result ≡ breach_of machine.now (nodes_of stations.now) }
 {

@@ -9,6 +9,7 @@ mod block;
 mod breaches;
 mod events;
 mod holders;
+mod runs;
 
 pub use block::{
     lines_keep_order, meetings_are_orderly, nothing_is_stray, one_writer, rows_are_built,
@@ -19,3 +20,4 @@ pub use events::{
     deals_are_steps, events_move, messages_deal, rows_deal, sends_are_right, steps_deal,
 };
 pub use holders::Copies;
+pub use runs::{events_keep_coherence, runs_of_machines_are_coherent};
