@@ -3,6 +3,9 @@
 //! home does what the directory does. Each event of a node is tied to it, where Data that comes is asked for: what it does
 //! to a block is some steps of that block, and at the block's home it does what a row of the directory says. The messages
 //! under way in a world are not tied to it yet.
+//!
+//! [`copies`] says who holds a block in a machine, and [`check_copies`] finds the first breach there. At the nodes of a
+//! world of a serial run there is none.
 #![tactic(auto)]
 
 mod block;
