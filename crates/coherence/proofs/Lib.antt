@@ -12,7 +12,7 @@ pub mod Built
 pub mod Called
 pub mod Meetings
 pub mod Values
-pub mod Copies
+pub mod CacheCopies
 pub mod Deals
 pub mod StepDeals
 pub mod RowSends
@@ -28,6 +28,9 @@ pub mod WorldDeals
 pub mod WorldMeetings
 pub mod WorldRows
 pub mod WorldSteps
+pub mod Firsts
+pub mod WhoHolds
+pub mod NoBreach
 pub mod WorldRuns
 pub mod WorldStart
 pub mod WorldSerial

@@ -48,7 +48,7 @@ use Rattle.coherence.specs.Pipes.{not_to_home_of, not_from_home_of}
 use Rattle.coherence.specs.Steps.{ack_body}
 use Rattle.coherence.specs.Deals.{wanted_in, copy_by, copy_of, cell_of, is_from_home, body_if, sent_home, said, DealsWith, stores_to, IsWantedIn, MessagesDeal}
 use Rattle.coherence.specs.Deals.Deal.{Gives, Writes, Fills, Drops}
-use Rattle.coherence.proofs.Copies.{copy_none, copy_dropped, other_dropped, line_written, other_written, IsReplaced, other_installed, replaced_differs}
+use Rattle.coherence.proofs.CacheCopies.{copy_none, copy_dropped, other_dropped, line_written, other_written, IsReplaced, other_installed, replaced_differs}
 use Rattle.coherence.proofs.RowSends.{AllGoBack, calls_back, row_goes_back}
 use Rattle.coherence.proofs.StepDeals.{told, IsDealt, stores_here, stamped_said, sent_here, sent_elsewhere, same_part, waiting_here, waiting_elsewhere, put_body_goes}
 

@@ -46,7 +46,7 @@ use Rattle.coherence.specs.Pipes.{not_to_home_of}
 use Rattle.coherence.specs.Deals.{wanted_in, copy_by, copy_of, cell_of, body_if, sent_home, said, all_dealt, DealsWith, stores_to, StepsDeal}
 use Rattle.coherence.specs.Deals.Deal.{Asks, Upgrades, Gives, Writes}
 use Rattle.coherence.proofs.Cells.{part}
-use Rattle.coherence.proofs.Copies.{copy_none, copy_readonly, line_writable, copy_dropped, other_dropped, line_written, other_written}
+use Rattle.coherence.proofs.CacheCopies.{copy_none, copy_readonly, line_writable, copy_dropped, other_dropped, line_written, other_written}
 
 -- ---- messages
 
