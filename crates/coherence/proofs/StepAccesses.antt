@@ -33,14 +33,16 @@ use Rattle.target_cache.specs.declared.line.Line.{Line}
 use Rattle.target_cache.specs.Lines.{number_in, written_line}
 use Rattle.target_cache.specs.Cached.{line_of, tag_of, read_of, write_of}
 use Rattle.node.specs.declared.state.NodeState.{NodeState}
-use Rattle.node.specs.State.{register}
+use Rattle.node.specs.State.{register, step_time, next_key}
 use Rattle.node.specs.Handled.{Handled}
 use Rattle.node.specs.SharedAccess.{offset_of, stored_value, hit_load_by, shared_load_of, hit_store_by, shared_store_of}
 use Rattle.node.specs.PrivateAccess.{load_by, load_from, store_by, store_to}
 use Rattle.node.specs.Annotation.{annotate_by, annotate_block, annotate_of}
 use Rattle.node.specs.Call.{barrier_call_of, exit_of, call_of}
 use Rattle.node.specs.Processor.{fetch_of, meaning_in, effect_by, execute_of, step_by, step_of}
-use Rattle.node.specs.Sound.{CacheFits}
+use Rattle.node.specs.React.{react, react_to_step, record_of, next_handled, counted_step}
+use Rattle.node.specs.Sound.{CacheFits, IsNode}
+use Rattle.discrete_events.specs.Simulation.{Step}
 use Rattle.node.proofs.Accesses.{in_block, some_sets}
 use Rattle.node.proofs.Memory.{load_outside, store_outside}
 use Rattle.coherence.specs.Block.{Copy}
@@ -351,3 +353,27 @@ module _ (machine : MachineParts) (time : ℕ) (old : NodeState) (is : IsMachine
       by : (found : Option ℕ) → fetch_of machine old ≡ found → Right (step_by machine time old found)
       by None fetched = ends _ (λ done. done) tt
       by (Some word) fetched = does word fetched (meaning_in machine word old).0 (meaning_in machine word old).1 refl
+
+-- ---- the node after its step
+
+right_step : (machine : MachineParts) (node : NodeState) → IsNode machine node → node.mode ≡ Running → IsRight machine node (next_handled machine node)
+right_step machine node is running =
+    let right = step_right machine (step_time node) (counted_step (next_key machine node) node) is.numbers is.cache is.private running in
+    record { load = right.load; store = right.store; waits = right.waits }
+
+pub step_load_law : (machine : MachineParts) (node : NodeState) (address value : ℕ) → IsNode machine node → node.mode ≡ Running →
+    (record_of machine node Step).deed ≡ Loaded address value → is_shared address ≡ true →
+    IsLoadOf machine (fetch_of machine node) address value (react machine node Step).0.cache
+unfolding react_to_step record_of
+step_load_law machine node address value is running deed shared = (right_step machine node is running).load address value deed shared
+
+pub step_store_law : (machine : MachineParts) (node : NodeState) (address width value : ℕ) → IsNode machine node → node.mode ≡ Running →
+    (record_of machine node Step).deed ≡ Stored address width value → is_shared address ≡ true →
+    StoresInCopy machine address width value node.cache (react machine node Step).0.cache
+unfolding react_to_step record_of
+step_store_law machine node address width value is running deed shared = (right_step machine node is running).store address width value deed shared
+
+pub step_waits_law : (machine : MachineParts) (node : NodeState) (block : ℕ) (exclusive : Bool) → IsNode machine node → node.mode ≡ Running →
+    (react machine node Step).0.mode ≡ Waiting block exclusive → fetch_of machine (react machine node Step).0 ≡ fetch_of machine node
+unfolding react_to_step
+step_waits_law machine node block exclusive is running waits = (right_step machine node is running).waits block exclusive waits
