@@ -15,6 +15,7 @@ pub mod Values
 pub mod CacheCopies
 pub mod Deals
 pub mod StepDeals
+pub mod StepAccesses
 pub mod RowSends
 pub mod MessageDeals
 pub mod RowDeals
