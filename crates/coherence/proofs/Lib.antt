@@ -16,6 +16,7 @@ pub mod CacheCopies
 pub mod Deals
 pub mod StepDeals
 pub mod StepAccesses
+pub mod Accesses
 pub mod RowSends
 pub mod MessageDeals
 pub mod RowDeals

@@ -133,7 +133,7 @@ record IsResumed (machine : MachineParts) (line : Line) (old : NodeState) (handl
 installed_mode : (line : Line) (old : NodeState) → (installed line old).mode ≡ Running
 installed_mode line old = refl
 
-installed_cache : (line : Line) (old : NodeState) → (installed line old).cache ≡ install_of line old.cache
+pub installed_cache : (line : Line) (old : NodeState) → (installed line old).cache ≡ install_of line old.cache
 installed_cache line old = by (replaced_of line old.cache)
   where
     by : (replaced : Option Line) → (replacing replaced (with_cache (install_of line old.cache) old)).cache ≡ install_of line old.cache
@@ -428,7 +428,7 @@ module _ (machine : MachineParts) (block time : ℕ) (up rest : List Body) (old 
       by InBarrier at = passes msg (go_by machine time old InBarrier) other (sym (ap (λ (m : Mode). wanted_in block m) at)) refl refl
 
 -- what a processor waits for doesn't depend on counts
-counted_mode : (machine : MachineParts) (key : Key) (node : NodeState) (mode : Mode) → ModeFits machine node mode → ModeFits machine (counted_message key node) mode
+pub counted_mode : (machine : MachineParts) (key : Key) (node : NodeState) (mode : Mode) → ModeFits machine node mode → ModeFits machine (counted_message key node) mode
 counted_mode machine key node Running fits = tt
 counted_mode machine key node (Waiting wanted exclusive) fits = record { exists = fits.exists; fetched = fits.fetched; absent = fits.absent; asks = fits.asks }
 counted_mode machine key node InBarrier fits = fits

@@ -1,11 +1,10 @@
 -- What a step of a processor does with the bytes of shared memory.
-use Rattle.std.proofs.Common.{◌≡◌, ℕ, ◌+◌, ◌%◌, ◌<◌, ◌≤◌, Bool, true, false, cond, List, [], ◌∷◌, length, Option, Some, None, Result, Ok, Err, refl, ap, sym, ◌∙◌, subst, inl, inr, arith}
-use Rattle.std.specs.Prelude.{◌==◌, ⊤, ◌/◌, slice_index}
-use Rattle.std.proofs.lemmas.Bool.{cases_Bool}
+use Rattle.std.proofs.Common.{◌≡◌, ℕ, ◌%◌, ◌<◌, ◌≤◌, Bool, true, false, cond, List, [], ◌∷◌, length, Option, Some, None, Result, Ok, Err, refl, ap, sym, ◌∙◌, subst, inl, inr, arith}
+use Rattle.std.specs.Prelude.{◌==◌, ⊤, ◌/◌}
 use Rattle.std.proofs.lemmas.Bool.Decides.{nat_tests}
 use Rattle.wt_params.specs.declared.parts.CostParts.{CostParts}
 use Rattle.wt_params.specs.declared.parts.MachineParts.{MachineParts}
-use Rattle.wt_params.specs.Machine.{IsMachine, shared_base, shared_block}
+use Rattle.wt_params.specs.Machine.{IsMachine, shared_block}
 use Rattle.rv_decode.specs.Table.{decode_of}
 use Rattle.rv_decode.specs.declared.instr.CicoOp.{CicoOp}
 use Rattle.rv_decode.specs.declared.instr.CicoOp.TheVariants.{CheckOutS, CheckOutX, CheckIn}
@@ -21,24 +20,23 @@ use Rattle.rv_exec.specs.Meaning.{meaning_of, transferred, offset_from}
 use Rattle.rv_exec.specs.Widths.{load_width_of, store_width_of, widened}
 use Rattle.priv_mem.specs.declared.fault.MemFault.{MemFault}
 use Rattle.priv_mem.specs.declared.fault.MemFault.TheVariants.{Misaligned, Outside}
-use Rattle.priv_mem.specs.Memory.{IsWidth, load_of, store_of, access_gives, is_outside, is_misaligned, little_endian, low_bytes, overwritten}
+use Rattle.priv_mem.specs.Memory.{IsWidth, load_of, store_of, access_gives, is_outside, is_misaligned, low_bytes, overwritten}
 use Rattle.wt_proto.specs.declared.mode.Mode.{Mode}
-use Rattle.wt_proto.specs.declared.mode.Mode.TheVariants.{Running, Waiting, InBarrier, Stopped}
-use Rattle.wt_trace.specs.declared.record.Deed.{Deed}
+use Rattle.wt_proto.specs.declared.mode.Mode.TheVariants.{Running, Waiting}
 use Rattle.wt_trace.specs.declared.record.Deed.TheVariants.{Loaded, Stored}
 use Rattle.block_tags.specs.declared.tag.Tag.{Tag}
 use Rattle.block_tags.specs.declared.tag.Tag.TheVariants.{Invalid, ReadOnly, Writable}
 use Rattle.cico_ops.specs.Annotations.{action_of}
 use Rattle.target_cache.specs.declared.line.Line.{Line}
-use Rattle.target_cache.specs.Lines.{number_in, written_line}
-use Rattle.target_cache.specs.Cached.{line_of, tag_of, read_of, write_of}
+use Rattle.target_cache.specs.Lines.{number_in}
+use Rattle.target_cache.specs.Cached.{line_of, tag_of, read_of}
 use Rattle.node.specs.declared.state.NodeState.{NodeState}
 use Rattle.node.specs.State.{register, step_time, next_key}
 use Rattle.node.specs.Handled.{Handled}
 use Rattle.node.specs.SharedAccess.{offset_of, stored_value, hit_load_by, shared_load_of, hit_store_by, shared_store_of}
 use Rattle.node.specs.PrivateAccess.{load_by, load_from, store_by, store_to}
 use Rattle.node.specs.Annotation.{annotate_by, annotate_block, annotate_of}
-use Rattle.node.specs.Call.{barrier_call_of, exit_of, call_of}
+use Rattle.node.specs.Call.{call_of}
 use Rattle.node.specs.Processor.{fetch_of, meaning_in, effect_by, execute_of, step_by, step_of}
 use Rattle.node.specs.React.{react, react_to_step, record_of, next_handled, counted_step}
 use Rattle.node.specs.Sound.{CacheFits, IsNode}
@@ -46,10 +44,10 @@ use Rattle.discrete_events.specs.Simulation.{Step}
 use Rattle.node.proofs.Accesses.{in_block, some_sets}
 use Rattle.node.proofs.Memory.{load_outside, store_outside}
 use Rattle.coherence.specs.Block.{Copy}
-use Rattle.coherence.specs.Deals.{copy_by, copy_of}
+use Rattle.coherence.specs.Deals.{copy_by}
 use Rattle.coherence.specs.Traces.{is_shared, load_by as load_op_by, load_in}
-use Rattle.coherence.specs.Accesses.{IsLoadOf, IsStoreOf, StoresInCopy, IsDone}
-use Rattle.coherence.proofs.Copies.{line_writable, line_written}
+use Rattle.coherence.specs.Accesses.{IsLoadOf, StoresInCopy, IsDone}
+use Rattle.coherence.proofs.CacheCopies.{line_writable, line_written}
 
 -- ---- words
 

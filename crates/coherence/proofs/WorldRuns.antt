@@ -1,6 +1,6 @@
 -- The worlds of every serial run are coherent, with the values that its records tell.
-use Rattle.std.proofs.Common.{◌≡◌, ◌≢◌, ℕ, zero, suc, ◌<◌, ◌⊎◌, inl, inr, Bool, true, false, List, [], ◌∷◌, map, Option, Some, None, refl, ap, sym, ◌∙◌, subst, arith}
-use Rattle.std.specs.Prelude.{◌==◌, flat_map, ◌++◌}
+use Rattle.std.proofs.Common.{◌≡◌, ◌≢◌, ℕ, zero, suc, ◌<◌, ◌⊎◌, inl, inr, Bool, true, false, List, [], ◌∷◌, map, Option, Some, None, refl, ap, sym, ◌∙◌, subst}
+use Rattle.std.specs.Prelude.{◌++◌}
 use Rattle.std.proofs.lemmas.Bool.{cases_Bool, ne_eqb, eq-eqb}
 use Rattle.wt_params.specs.declared.parts.MachineParts.{MachineParts}
 use Rattle.wt_params.specs.Machine.{IsMachine}
@@ -9,12 +9,11 @@ use Rattle.wt_proto.specs.declared.message.Body.{Body}
 use Rattle.wt_proto.specs.declared.message.Body.TheVariants.{GetS, GetX, PutS, PutX, DataS, DataX, Inv, InvAck, Wake, Arrive, Leave, Go}
 use Rattle.wt_proto.specs.declared.message.Msg.{Msg}
 use Rattle.wt_proto.specs.declared.mode.Mode.TheVariants.{Waiting}
-use Rattle.wt_trace.specs.declared.record.Deed.{Deed}
 use Rattle.wt_trace.specs.declared.record.Deed.TheVariants.{Loaded, Stored}
 use Rattle.wt_trace.specs.declared.record.Record.{Record}
 use Rattle.discrete_events.specs.Simulation.{Event, Step, Arrival, Message}
 use Rattle.discrete_events.specs.World.{least, events_in}
-use Rattle.discrete_events.specs.Serial.{placed, taken, is_for, node_after, after_least, serial_step, serial}
+use Rattle.discrete_events.specs.Serial.{placed, taken, node_after, after_least, serial_step, serial}
 use Rattle.discrete_events.specs.Laws.{IsIn}
 use Rattle.discrete_events.proofs.Numbered.{single_flat}
 use Rattle.discrete_events.proofs.SerialRun.{world_of_serial}
@@ -27,13 +26,13 @@ use Rattle.node.proofs.EventKept.{machines_are_simulations}
 use Rattle.wt_report.specs.Trace.{recorded_by, recorded_of, handled_at, history}
 use Rattle.coherence.specs.RowDeals.{is_for_directory}
 use Rattle.coherence.specs.Moves.{comes_from_home}
-use Rattle.coherence.specs.Deals.{IsWantedIn, copy_of, stores_to}
-use Rattle.coherence.specs.Traces.{Known, is_shared, bytes_of, stored_by, word_of, after_record, after_records, is_right}
+use Rattle.coherence.specs.Deals.{IsWantedIn, stores_to}
+use Rattle.coherence.specs.Traces.{Known, is_shared, bytes_of, word_of, after_record, after_records, is_right}
 use Rattle.coherence.specs.Accesses.{IsLoadOf, IsDone}
 use Rattle.coherence.specs.Runs.{AreRightRecords, EventKeeps}
-use Rattle.coherence.specs.Worlds.{World, node_in, IsCoherentBlock, AreRight, IsCoherentWorld}
+use Rattle.coherence.specs.Worlds.{World, IsCoherentWorld}
 use Rattle.coherence.proofs.Accesses.{accesses_law}
-use Rattle.coherence.proofs.Bytes.{block_of_address, stored_size}
+use Rattle.coherence.proofs.Bytes.{stored_size}
 use Rattle.coherence.proofs.RowSends.{is_of_barrier}
 use Rattle.coherence.proofs.Moves.{events_move_law}
 use Rattle.coherence.proofs.WorldEvents.{IsWorldOf, at, sound, due, key_to, reacted, node_is, after, news, step_now, right_later, in_later, next_nodes, next_pending}
@@ -213,10 +212,10 @@ module _ (machine : MachineParts) (is : IsMachine machine) (world : World) (ok :
           };
       loaded = λ address number e high.
           let done = accesses_law.message_load machine taker message.0 message.1 address number taker_sound is_wanted (fits machine is world ok key message is_least good.right).msg.«data» e high in
-          let waited = accesses_law.message_waited machine taker message.0 message.1 taker_sound is_wanted (subst IsDone (sym e) tt) in
+          let waited = accesses_law.message_waited machine taker message.0 message.1 taker_sound is_wanted (fits machine is world ok key message is_least good.right).msg.«data» (subst IsDone (sym e) tt) in
           subst (λ (w : Option ℕ). IsLoadOf machine w address number (after machine is world ok key (Arrival message) is_least).cache) (sym (word_there waited.0 waited.1 waited.2)) done;
       waits = λ block exclusive waits.
-          let still = accesses_law.message_waits machine taker message.0 message.1 block exclusive taker_sound is_wanted waits in
+          let still = accesses_law.message_waits machine taker message.0 message.1 block exclusive taker_sound is_wanted (fits machine is world ok key message is_least good.right).msg.«data» waits in
           word_there block exclusive (sym still.waited ∙ waits) ∙ sym still.word;
     }
 

@@ -1,5 +1,5 @@
 -- Every world of every serial run from a start is coherent, so it has one writer at most of each block.
-use Rattle.std.proofs.Common.{◌≡◌, ℕ, Bool, true, false, cond, Option, Some, None, refl, ap, sym, ◌∙◌}
+use Rattle.std.proofs.Common.{◌≡◌, ℕ, ◌+◌, Bool, true, false, cond, List, [], ◌∷◌, Option, Some, None, refl, ap, sym, ◌∙◌, subst}
 use Rattle.wt_params.specs.declared.parts.MachineParts.{MachineParts}
 use Rattle.wt_params.specs.Machine.{IsMachine}
 use Rattle.block_tags.specs.declared.tag.Tag.TheVariants.{Invalid, ReadOnly, Writable}
@@ -23,7 +23,10 @@ use Rattle.quantum.specs.Starts.{IsWorldOf}
 use Rattle.quantum.proofs.AtStart.{starts_are_worlds}
 use Rattle.coherence.specs.Block.{Copy}
 use Rattle.coherence.specs.Deals.{copy_by, copy_of}
-use Rattle.coherence.specs.Runs.{EventsKeepCoherence, world_after, HasOneWriter}
+use Rattle.wt_trace.specs.declared.record.Record.{Record}
+use Rattle.wt_report.specs.Trace.{IsTracedStart}
+use Rattle.coherence.specs.Traces.{Known, known_at_start, after_record, first_wrong}
+use Rattle.coherence.specs.Runs.{AreRightRecords, EventsKeepCoherence, world_after, records_until, RunsAreCoherent, HasOneWriter, LoadsAreRight}
 use Rattle.coherence.specs.Worlds.{World, to_home_in, from_home_in, cell_by, cell_in, view_in, IsCoherentWorld}
 use Rattle.wt_report.proofs.TraceOrder.{trace_is_serial}
 use Rattle.coherence.proofs.Strays.{one_writer}

@@ -119,10 +119,9 @@ module _ (machine : MachineParts) (is : IsMachine machine) (world : World) (ok :
         let first = first_down kind in
         let here = node_is machine 0 world.nodes it ok.numbered (at machine is world ok key (Arrival message) is_least).member in
         let front : (view.cell it.number).from_home ≡ grant_body exclusive bytes ∷ bodies first.0 =
-        cell_down message.1.block (to_home_in world message.1.block it.number) (from_home_in world message.1.block it.number) _ ∙ ap bodies first.1 ∙ ap (λ (b : Body). b ∷ bodies first.0) e in
-        (
+        cell_down message.1.block (to_home_in world message.1.block it.number) (from_home_in world message.1.block it.number) _ ∙ ap bodies first.1 ∙ ap (λ (b : Body). b ∷ bodies first.0) e in (
           sym (ap (λ (c : Option NodeState). (cell_by message.1.block (to_home_in world message.1.block it.number) (from_home_in world message.1.block it.number) c).wants) here)
-          ∙ nothing_stray.filled view it.number exclusive bytes (bodies first.0) before.facts front,
+              ∙ nothing_stray.filled view it.number exclusive bytes (bodies first.0) before.facts front,
           first_carries value view it.number exclusive bytes (bodies first.0) before.has_value front,
         )
 

@@ -1,7 +1,7 @@
 -- After an event of the serial run each block has the bytes that the stores so far left, and a load has read them.
-use Rattle.std.proofs.Common.{◌≡◌, ◌≢◌, ℕ, ◌+◌, ◌-◌, ◌*◌, ◌<◌, ◌≤◌, Bool, true, false, List, [], ◌∷◌, length, map, Option, Some, None, refl, ap, sym, ◌∙◌, subst, arith, inl, inr}
-use Rattle.std.specs.Prelude.{◌==◌, slice_range, nat_le}
-use Rattle.std.proofs.lemmas.Bool.{cases_Bool, eqb-true, eq-eqb, ne_eqb}
+use Rattle.std.proofs.Common.{◌≡◌, ℕ, ◌+◌, ◌-◌, ◌*◌, ◌<◌, true, false, List, length, map, Option, Some, refl, ap, sym, ◌∙◌, subst, inl, inr}
+use Rattle.std.specs.Prelude.{◌==◌, slice_range}
+use Rattle.std.proofs.lemmas.Bool.{cases_Bool, eqb-true, eq-eqb}
 use Rattle.wt_params.specs.declared.parts.MachineParts.{MachineParts}
 use Rattle.wt_params.specs.Machine.{IsMachine, shared_base, shared_block}
 use Rattle.rv_exec.specs.Widths.{load_width_of, widened}
@@ -10,7 +10,7 @@ use Rattle.wt_proto.specs.declared.key.Key.{Key}
 use Rattle.wt_proto.specs.declared.message.Msg.{Msg}
 use Rattle.wt_trace.specs.declared.record.Deed.{Deed}
 use Rattle.wt_trace.specs.declared.record.Deed.TheVariants.{Plain, Loaded, Stored, Stopped}
-use Rattle.discrete_events.specs.Simulation.{Event, Message}
+use Rattle.discrete_events.specs.Simulation.{Event}
 use Rattle.discrete_events.specs.World.{least, events_in}
 use Rattle.discrete_events.specs.Serial.{placed, taken, node_after}
 use Rattle.node.specs.declared.state.NodeState.{NodeState}
@@ -23,7 +23,7 @@ use Rattle.coherence.specs.Accesses.{IsLoadOf, IsStoreOf}
 use Rattle.coherence.specs.Worlds.{World, node_in, to_home_in, from_home_in, cell_by, view_in, IsCoherentBlock}
 use Rattle.coherence.proofs.Values.{values_kept}
 use Rattle.coherence.proofs.Bytes.{block_of_address, read_in_block, stored_in_block, stored_in_another}
-use Rattle.coherence.proofs.WorldEvents.{IsWorldOf, node_is, at, after, news, later_here}
+use Rattle.coherence.proofs.WorldEvents.{IsWorldOf, at, after, news, later_here}
 use Rattle.coherence.proofs.WorldDeals.{IsLater}
 
 -- a copy that a node of a world holds has the value of its block

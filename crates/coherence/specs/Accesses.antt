@@ -88,7 +88,7 @@ pub record AccessesAreRight : Type 0 where
       (record_of machine node (Arrival (key, msg))).deed ≡ Stored address width value → is_shared address ≡ true →
       StoresInData machine address width value msg (react machine node (Arrival (key, msg))).0.cache
   pub message_waited : (machine : MachineParts) (node : NodeState) (key : Key) (msg : Msg) → IsNode machine node → IsWantedIn node.mode msg →
-      IsDone (record_of machine node (Arrival (key, msg))).deed → (block : ℕ) × (exclusive : Bool) × (node.mode ≡ Waiting block exclusive)
+      IfSome (data_of msg.body) (λ bytes. length bytes ≡ machine.block_bytes) → IsDone (record_of machine node (Arrival (key, msg))).deed → (block : ℕ) × (exclusive : Bool) × (node.mode ≡ Waiting block exclusive)
   pub message_waits : (machine : MachineParts) (node : NodeState) (key : Key) (msg : Msg) (block : ℕ) (exclusive : Bool) → IsNode machine node →
-      IsWantedIn node.mode msg → (react machine node (Arrival (key, msg))).0.mode ≡ Waiting block exclusive →
+      IsWantedIn node.mode msg → IfSome (data_of msg.body) (λ bytes. length bytes ≡ machine.block_bytes) → (react machine node (Arrival (key, msg))).0.mode ≡ Waiting block exclusive →
       StillWaits machine node (react machine node (Arrival (key, msg))).0

@@ -20,7 +20,8 @@ pub use block::{
 };
 pub use breaches::{Breach, check_copies, copies};
 pub use events::{
-    deals_are_steps, events_move, messages_deal, rows_deal, sends_are_right, steps_deal,
+    accesses_are_right, deals_are_steps, events_move, messages_deal, rows_deal, sends_are_right,
+    steps_deal,
 };
 pub use holders::Copies;
 pub use runs::{events_keep_coherence, runs_of_machines_are_coherent};
