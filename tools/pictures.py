@@ -1,9 +1,9 @@
 #!/usr/bin/env python3
 """Draws the pictures of the docs that no run makes: the machine, its mesh, the states of a directory
-entry, a quantum of two nodes, and the layers of the proof.
+entry, the pipe of a node and a block, a quantum of two nodes, and the layers of the proof.
 
-    tools/pictures.py               writes docs/machine.svg, mesh.svg, directory.svg, quantum.svg and
-                                    layers.svg
+    tools/pictures.py               writes docs/machine.svg, pipe.svg, mesh.svg, directory.svg,
+                                    quantum.svg and layers.svg
     tools/pictures.py --check       says which of them differ from what is stored
 """
 import os
@@ -260,7 +260,39 @@ def layers():
     return picture
 
 
-PICTURES = {"machine.svg": machine, "mesh.svg": mesh, "directory.svg": directory,
+def pipe_row(picture, y, told, to_home, copy, from_home):
+    """A node's pipe: messages to the home, the copy, messages from the home."""
+    picture.line(f"M860 {y + 17} L130 {y + 17}", "#bbb")
+    for place, body in enumerate(to_home):
+        picture.box(150 + 104 * place, y, 90, 34, RED if place == 0 else SOFT, corner=16)
+        picture.text(195 + 104 * place, y + 22, body)
+    picture.box(402, y - 4, 110, 42, BLUE if copy else SOFT)
+    picture.text(457, y + 22, copy or "no copy", colour=INK if copy else SOFT)
+    for place, body in enumerate(from_home):
+        picture.box(560 + 104 * place, y, 90, 34, GREEN if body != "Inv" else PURPLE, corner=16)
+        picture.text(605 + 104 * place, y + 22, body)
+    picture.text(20, y + 56, told, "start", SOFT, 11)
+
+
+def pipe():
+    picture = Picture(900, 330)
+    picture.text(72, 30, "the home", bold=True)
+    picture.text(250, 30, "on the way to the home", bold=True)
+    picture.text(457, 30, "the copy", bold=True)
+    picture.text(660, 30, "on the way from the home", bold=True)
+    for y in (50, 140, 230):
+        picture.box(20, y - 4, 104, 42, PURPLE, "", ("entry, memory,", "who waits"))
+    pipe_row(picture, 50, "A copy to write was given back, and the processor asks to read the block "
+             "again: PutX is the token.", ("PutX", "GetS"), "", ())
+    pipe_row(picture, 140, "A copy to read is there and is called back: it is the token. When Inv "
+             "comes, the copy goes and InvAck stands in the place of Inv.", (), "to read", ("Inv",))
+    pipe_row(picture, 230, "The home has served this node and then calls it back for another: DataS "
+             "is the token, and comes first.", (), "", ("DataS", "Inv"))
+    picture.text(20, 318, "A token stands in front of its pipe, and nowhere else.", "start", bold=True)
+    return picture
+
+
+PICTURES = {"machine.svg": machine, "pipe.svg": pipe, "mesh.svg": mesh, "directory.svg": directory,
             "quantum.svg": quantum, "layers.svg": layers}
 
 

@@ -12,9 +12,11 @@ pub mod Built
 pub mod Called
 pub mod Meetings
 pub mod Values
-pub mod Copies
+pub mod CacheCopies
 pub mod Deals
 pub mod StepDeals
+pub mod StepAccesses
+pub mod Accesses
 pub mod RowSends
 pub mod MessageDeals
 pub mod RowDeals
@@ -28,8 +30,13 @@ pub mod WorldDeals
 pub mod WorldMeetings
 pub mod WorldRows
 pub mod WorldSteps
+pub mod Firsts
+pub mod WhoHolds
+pub mod NoBreach
 pub mod WorldRuns
 pub mod WorldStart
 pub mod WorldSerial
 pub mod Known
 pub mod StartBytes
+pub mod Bytes
+pub mod WorldValues

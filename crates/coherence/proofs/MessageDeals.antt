@@ -17,6 +17,7 @@ use Rattle.wt_proto.specs.Messages.{data_of}
 use Rattle.wt_proto.specs.declared.mode.Mode.{Mode}
 use Rattle.wt_proto.specs.declared.mode.Mode.TheVariants.{Running, Waiting, InBarrier, Stopped}
 use Rattle.block_tags.specs.declared.tag.Tag.TheVariants.{Invalid}
+use Rattle.discrete_events.specs.Simulation.{Arrival}
 use Rattle.target_cache.specs.declared.line.Line.{Line}
 use Rattle.target_cache.specs.Lines.{written_line, tag_by}
 use Rattle.target_cache.specs.Cached.{Cached, line_of, write_of, replaced_of, install_of}
@@ -33,23 +34,23 @@ use Rattle.node.specs.declared.state.NodeState.{NodeState}
 use Rattle.node.specs.declared.state.Send.{Send}
 use Rattle.node.specs.State.{with_cache, one_stray}
 use Rattle.node.specs.Handled.{Handled, quiet, sending, sent_at, gives_back}
-use Rattle.node.specs.SharedAccess.{offset_of}
+use Rattle.node.specs.SharedAccess.{offset_of, stored_value}
 use Rattle.node.specs.DirectoryMessage.{trap_sends, act_by, directory_message_of}
 use Rattle.node.specs.DataMessage.{asks_for, effect_at, resumed, replacing, installed, fill_with, data_message_of}
 use Rattle.node.specs.InvMessage.{dirty_bytes, inv_by, inv_message_of}
 use Rattle.node.specs.BarrierMessage.{go_to, release_by, with_barrier, has_unit, arrive_message_of, leave_message_of, go_by, go_message_of}
-use Rattle.node.specs.React.{message_by, message_of, react_to_message, counted_message}
+use Rattle.node.specs.React.{message_by, message_of, react_to_message, record_of, counted_message}
 use Rattle.node.specs.Sound.{CacheFits, ModeFits, WaitsFor, Asks}
 use Rattle.node.proofs.Accesses.{some_sets, installed_fits}
 use Rattle.node.proofs.DataKept.{asked}
 use Rattle.coherence.specs.Block.{Copy}
 use Rattle.coherence.specs.Pipes.{not_to_home_of, not_from_home_of}
 use Rattle.coherence.specs.Steps.{ack_body}
-use Rattle.coherence.specs.Deals.{wanted_in, copy_by, copy_of, cell_of, is_from_home, body_if, sent_home, said, DealsWith, IsWantedIn, MessagesDeal}
+use Rattle.coherence.specs.Deals.{wanted_in, copy_by, copy_of, cell_of, is_from_home, body_if, sent_home, said, DealsWith, stores_to, IsWantedIn, MessagesDeal}
 use Rattle.coherence.specs.Deals.Deal.{Gives, Writes, Fills, Drops}
-use Rattle.coherence.proofs.Copies.{copy_none, copy_dropped, other_dropped, line_written, other_written, IsReplaced, other_installed, replaced_differs}
+use Rattle.coherence.proofs.CacheCopies.{copy_none, copy_dropped, other_dropped, line_written, other_written, IsReplaced, other_installed, replaced_differs}
 use Rattle.coherence.proofs.RowSends.{AllGoBack, calls_back, row_goes_back}
-use Rattle.coherence.proofs.StepDeals.{told, IsDealt, stamped_said, sent_here, sent_elsewhere, same_part, waiting_here, waiting_elsewhere, put_body_goes}
+use Rattle.coherence.proofs.StepDeals.{told, IsDealt, stores_here, stamped_said, sent_here, sent_elsewhere, same_part, waiting_here, waiting_elsewhere, put_body_goes}
 
 -- ---- messages that don't go to a home
 
@@ -117,21 +118,22 @@ waits_for (Waiting wanted x) block exclusive is = elim (cases_Bool (wanted == bl
 -- ---- a block that has come
 
 -- The processor runs again, with the line in its cache, or with it and a store in it.
-record IsWritten (line : Line) (old : NodeState) (handled : Handled) : Type 0 where
+record IsWritten (machine : MachineParts) (line : Line) (old : NodeState) (handled : Handled) : Type 0 where
   offset : ℕ
   width : ℕ
   value : ℕ
   cache : handled.node.cache ≡ write_of line.block offset width value (install_of line old.cache)
   writable : line.writable ≡ true
+  at : stores_to machine handled.deed line.block ≡ true
 
-record IsResumed (line : Line) (old : NodeState) (handled : Handled) : Type 0 where
+record IsResumed (machine : MachineParts) (line : Line) (old : NodeState) (handled : Handled) : Type 0 where
   mode : handled.node.mode ≡ Running
-  cache : (handled.node.cache ≡ install_of line old.cache) ⊎ IsWritten line old handled
+  cache : (handled.node.cache ≡ install_of line old.cache) ⊎ IsWritten machine line old handled
 
 installed_mode : (line : Line) (old : NodeState) → (installed line old).mode ≡ Running
 installed_mode line old = refl
 
-installed_cache : (line : Line) (old : NodeState) → (installed line old).cache ≡ install_of line old.cache
+pub installed_cache : (line : Line) (old : NodeState) → (installed line old).cache ≡ install_of line old.cache
 installed_cache line old = by (replaced_of line old.cache)
   where
     by : (replaced : Option Line) → (replacing replaced (with_cache (install_of line old.cache) old)).cache ≡ install_of line old.cache
@@ -139,7 +141,7 @@ installed_cache line old = by (replaced_of line old.cache)
     by (Some other) = refl
 
 resumes : (machine : MachineParts) (time : ℕ) (line : Line) (old : NodeState) (sends : List Send) (effect : Option Effect) → Asks machine line.block line.writable effect →
-    IsResumed line old (sending sends (resumed machine time line.block (installed line old) effect))
+    IsResumed machine line old (sending sends (resumed machine time line.block (installed line old) effect))
 resumes machine time line old sends (Some (Load op rd address)) asks = record { mode = refl; cache = inl (installed_cache line old) }
 resumes machine time line old sends (Some (Store op address value)) asks = record {
   mode = refl;
@@ -149,6 +151,7 @@ resumes machine time line old sends (Some (Store op address value)) asks = recor
     value = value;
     cache = ap (λ (c : Cached). write_of line.block (offset_of machine address) (store_width_of op) value c) (installed_cache line old);
     writable = asks.0;
+    at = stores_here machine address (store_width_of op) (stored_value op value) line.block asks.1.here;
   });
 }
 resumes machine time line old sends (Some (Cico op address)) asks = record { mode = refl; cache = inl (installed_cache line old) }
@@ -167,7 +170,7 @@ module _ (machine : MachineParts) (block time : ℕ) (up rest : List Body) (old 
   ways = subst (λ (m : MachineParts). 1 ≤ m.ways) (sym fits.machine_is) is.ways.at_least
 
   abbrev Dealt : List Body → Handled → Type 0
-  Dealt down handled = IsDealt block up down rest old handled
+  Dealt down handled = IsDealt machine block up down rest old handled
 
   -- Nothing is done to the block.
   stays : (down : List Body) (handled : Handled) → down ≡ rest → wanted_in block handled.node.mode ≡ wanted_in block old.mode → copy_of handled.node.cache block ≡ copy_of old.cache block →
@@ -177,6 +180,7 @@ module _ (machine : MachineParts) (block time : ℕ) (up rest : List Body) (old 
       deals = [];
       may = tt;
       is = same_part _ _ _ _ _ _ rest wants copy (ap (λ (l : List Body). up ++ l) sends ∙ append-nil up);
+      keeps = λ none value. refl;
     };
   })
 
@@ -195,6 +199,7 @@ module _ (machine : MachineParts) (block time : ℕ) (up rest : List Body) (old 
       may = (refl, tt);
       is = same_part _ _ _ _ _ _ rest refl (copy_dropped old.cache block fits.sound some)
           (ap (λ (l : List Body). up ++ l) (sent_here block (InvAck None) refl ∙ ap (λ (c : Option Copy). ack_body c ∷ []) (ap copy_by (sym held))));
+      keeps = λ none value. refl;
     };
   }
   drops_here (Some line) held = record {
@@ -203,6 +208,7 @@ module _ (machine : MachineParts) (block time : ℕ) (up rest : List Body) (old 
       may = (refl, tt);
       is = same_part _ _ _ _ _ _ rest refl (copy_dropped old.cache block fits.sound some)
           (ap (λ (l : List Body). up ++ l) (sent_here block (InvAck (dirty_bytes line)) refl ∙ ap (λ (c : Option Copy). ack_body c ∷ []) (ap copy_by (sym held))));
+      keeps = λ none value. refl;
     };
   }
 
@@ -220,7 +226,7 @@ module _ (machine : MachineParts) (block time : ℕ) (up rest : List Body) (old 
 
   -- ---- Data
 
-  module _ (line : Line) (size : length line.bytes ≡ machine.block_bytes) (waiting : WaitsFor machine old line.block line.writable) (asks : old.mode ≡ Waiting line.block line.writable) (handled : Handled) (resumed : IsResumed line old handled) where
+  module _ (line : Line) (size : length line.bytes ≡ machine.block_bytes) (waiting : WaitsFor machine old line.block line.writable) (asks : old.mode ≡ Waiting line.block line.writable) (handled : Handled) (resumed : IsResumed machine line old handled) where
     -- the cache with the line
     stored_fits : CacheFits machine (install_of line old.cache)
     stored_fits = installed_fits machine old.cache line is fits waiting.exists size waiting.absent
@@ -245,7 +251,7 @@ module _ (machine : MachineParts) (block time : ℕ) (up rest : List Body) (old 
     another_copy : (line.block ≢ block) → copy_of handled.node.cache block ≡ copy_of (install_of line old.cache) block
     another_copy apart = by resumed.cache
       where
-        by : (handled.node.cache ≡ install_of line old.cache) ⊎ IsWritten line old handled → copy_of handled.node.cache block ≡ copy_of (install_of line old.cache) block
+        by : (handled.node.cache ≡ install_of line old.cache) ⊎ IsWritten machine line old handled → copy_of handled.node.cache block ≡ copy_of (install_of line old.cache) block
         by (inl same) = ap (λ (c : Cached). copy_of c block) same
         by (inr written) =
             ap (λ (c : Cached). copy_of c block) written.cache
@@ -272,6 +278,7 @@ module _ (machine : MachineParts) (block time : ℕ) (up rest : List Body) (old 
               (ap (λ (l : List Send). sent_home block (told l)) sends
               ∙ ap (λ (b : ℕ). sent_home block (record { block = b; body = cond gone.writable (PutX gone.bytes) PutS } ∷ [])) same
               ∙ sent_here block (cond gone.writable (PutX gone.bytes) PutS) (put_body_goes gone)));
+          keeps = λ none value. refl;
         };
       }
       | inr differ ↦
@@ -301,12 +308,13 @@ module _ (machine : MachineParts) (block time : ℕ) (up rest : List Body) (old 
         there : line_of (install_of line old.cache) block ≡ Some line
         there = subst (λ (b : ℕ). line_of (install_of line old.cache) b ≡ Some line) same is_there
 
-        by : (handled.node.cache ≡ install_of line old.cache) ⊎ IsWritten line old handled → Dealt (grant_body line.writable line.bytes ∷ rest) handled
+        by : (handled.node.cache ≡ install_of line old.cache) ⊎ IsWritten machine line old handled → Dealt (grant_body line.writable line.bytes ∷ rest) handled
         by (inl kept) = record {
           deal = record {
             deals = Fills line.writable line.bytes rest ∷ [];
             may = ((wants, refl), tt);
             is = same_part _ _ _ _ _ _ rest mode_after (ap (λ (c : Cached). copy_of c block) kept ∙ ap copy_by there) quiet_home;
+            keeps = λ none value. refl;
           };
         }
         by (inr written) =
@@ -321,6 +329,7 @@ module _ (machine : MachineParts) (block time : ℕ) (up rest : List Body) (old 
                     ∙ ap copy_by (line_written (install_of line old.cache) block written.offset written.width written.value line stored_fits.sound stored_some there written.writable)
                     ∙ ap (λ (x : Bool). let copy : Copy = record { writable = x; bytes = new } in Some copy) written.writable)
                     quiet_home;
+                keeps = λ none value. absurd (let f : true ≡ false = sym (subst (λ (b : ℕ). stores_to machine handled.deed b ≡ true) same written.at) ∙ none in cc);
               };
             }
 
@@ -342,7 +351,7 @@ module _ (machine : MachineParts) (block time : ℕ) (up rest : List Body) (old 
       waiting : WaitsFor machine old line.block line.writable
       waiting = asked machine old line.block line.writable mode_fits waits.1
 
-      resumed_so : IsResumed line old (fill_with machine time line old)
+      resumed_so : IsResumed machine line old (fill_with machine time line old)
       resumed_so = resumes machine time line old (gives_back machine time (replaced_of line old.cache)) (effect_at machine old) waiting.asks
 
       by : (line.block ≡ block) ⊎ (line.block ≢ block) → Dealt (body_if (is_from_home block (data_msg line)) (data_msg line) ++ rest) (fill_with machine time line old)
@@ -419,14 +428,14 @@ module _ (machine : MachineParts) (block time : ℕ) (up rest : List Body) (old 
       by InBarrier at = passes msg (go_by machine time old InBarrier) other (sym (ap (λ (m : Mode). wanted_in block m) at)) refl refl
 
 -- what a processor waits for doesn't depend on counts
-counted_mode : (machine : MachineParts) (key : Key) (node : NodeState) (mode : Mode) → ModeFits machine node mode → ModeFits machine (counted_message key node) mode
+pub counted_mode : (machine : MachineParts) (key : Key) (node : NodeState) (mode : Mode) → ModeFits machine node mode → ModeFits machine (counted_message key node) mode
 counted_mode machine key node Running fits = tt
 counted_mode machine key node (Waiting wanted exclusive) fits = record { exists = fits.exists; fetched = fits.fetched; absent = fits.absent; asks = fits.asks }
 counted_mode machine key node InBarrier fits = fits
 counted_mode machine key node (Stopped cause) fits = tt
 
 pub messages_deal_law : MessagesDeal
-unfolding react_to_message message_of
+unfolding react_to_message message_of record_of
 messages_deal_law machine node key msg block up rest is wants size = by msg.body wants size
   where
     mode_fits : ModeFits machine (counted_message key node) node.mode
@@ -435,17 +444,17 @@ messages_deal_law machine node key msg block up rest is wants size = by msg.body
     about : Body → Msg
     about body = record { block = msg.block; body = body }
 
-    from_handled : (body : Body) → IsDealt block up (body_if (is_from_home block (about body)) (about body) ++ rest) rest (counted_message key node) (message_by machine key.time key.from msg.block body (counted_message key node)) →
-        DealsWith (cell_of block up (body_if (is_from_home block (about body)) (about body) ++ rest) node)
+    from_handled : (body : Body) → IsDealt machine block up (body_if (is_from_home block (about body)) (about body) ++ rest) rest (counted_message key node) (message_by machine key.time key.from msg.block body (counted_message key node)) →
+        DealsWith (stores_to machine (record_of machine node (Arrival (key, about body))).deed block) (cell_of block up (body_if (is_from_home block (about body)) (about body) ++ rest) node)
         (cell_of block (up ++ sent_home block (said (react_to_message machine node key (about body)).1)) rest (react_to_message machine node key (about body)).0)
     from_handled body dealt =
         let handled = message_by machine key.time key.from msg.block body (counted_message key node) in
-        subst (λ (msgs : List Msg). DealsWith (cell_of block up (body_if (is_from_home block (about body)) (about body) ++ rest) node) (cell_of block (up ++ sent_home block msgs) rest handled.node))
+        subst (λ (msgs : List Msg). DealsWith (stores_to machine handled.deed block) (cell_of block up (body_if (is_from_home block (about body)) (about body) ++ rest) node) (cell_of block (up ++ sent_home block msgs) rest handled.node))
         (sym (stamped_said machine handled.node.number handled.node.counters.sent handled.sends))
         dealt.deal
 
     by : (body : Body) → IsWantedIn node.mode (about body) → IfSome (data_of body) (λ bytes. length bytes ≡ machine.block_bytes) →
-        DealsWith (cell_of block up (body_if (is_from_home block (about body)) (about body) ++ rest) node)
+        DealsWith (stores_to machine (record_of machine node (Arrival (key, about body))).deed block) (cell_of block up (body_if (is_from_home block (about body)) (about body) ++ rest) node)
         (cell_of block (up ++ sent_home block (said (react_to_message machine node key (about body)).1)) rest (react_to_message machine node key (about body)).0)
     by (DataS bytes) w s = from_handled (DataS bytes) (fills machine block key.time up rest (counted_message key node) is.numbers is.cache mode_fits (record { block = msg.block; writable = false; bytes = bytes }) s w)
     by (DataX bytes) w s = from_handled (DataX bytes) (fills machine block key.time up rest (counted_message key node) is.numbers is.cache mode_fits (record { block = msg.block; writable = true; bytes = bytes }) s w)

@@ -21,6 +21,7 @@ use Rattle.wt_proto.specs.declared.message.Msg.{Msg}
 use Rattle.wt_proto.specs.declared.mode.Cause.TheVariants as causes
 use Rattle.wt_proto.specs.declared.mode.Mode.{Mode}
 use Rattle.wt_proto.specs.declared.mode.Mode.TheVariants.{Running, Waiting, InBarrier}
+use Rattle.wt_trace.specs.declared.record.Deed.TheVariants.{Stored}
 use Rattle.block_tags.specs.declared.tag.Tag.{Tag}
 use Rattle.block_tags.specs.declared.tag.Tag.TheVariants.{Invalid, ReadOnly, Writable}
 use Rattle.cico_ops.specs.Annotations.{action_of}
@@ -32,20 +33,20 @@ use Rattle.node.specs.declared.state.NodeState.{NodeState}
 use Rattle.node.specs.declared.state.Send.{Send}
 use Rattle.node.specs.State.{register, in_mode, one_done, step_time, next_key}
 use Rattle.node.specs.Handled.{Handled, quiet, sending, stopped, gives_back, moved_on, message_to}
-use Rattle.node.specs.SharedAccess.{offset_of, missed, upgraded as upgraded_node, hit_load_by, shared_load_of, hit_store_by, shared_store_of}
+use Rattle.node.specs.SharedAccess.{offset_of, missed, upgraded as upgraded_node, hit_load_by, shared_load_of, stored_value, hit_store_by, shared_store_of}
 use Rattle.node.specs.PrivateAccess.{load_by, load_from, store_by, store_to}
 use Rattle.node.specs.Annotation.{annotated, checked_in, annotate_by, annotate_block, annotate_of}
 use Rattle.node.specs.Call.{barrier_call_of, exit_of, call_of}
 use Rattle.node.specs.Processor.{fetch_of, meaning_in, effect_by, execute_of, step_by, step_of}
-use Rattle.node.specs.React.{stamped_from, react_to_step, counted_step}
+use Rattle.node.specs.React.{stamped_from, react_to_step, record_of, counted_step}
 use Rattle.node.specs.Sound.{CacheFits}
 use Rattle.node.proofs.Accesses.{some_sets, unread_absent}
 use Rattle.coherence.specs.Block.{Copy}
 use Rattle.coherence.specs.Pipes.{not_to_home_of}
-use Rattle.coherence.specs.Deals.{wanted_in, copy_by, copy_of, cell_of, body_if, sent_home, said, all_dealt, DealsWith, StepsDeal}
+use Rattle.coherence.specs.Deals.{wanted_in, copy_by, copy_of, cell_of, body_if, sent_home, said, all_dealt, DealsWith, stores_to, StepsDeal}
 use Rattle.coherence.specs.Deals.Deal.{Asks, Upgrades, Gives, Writes}
 use Rattle.coherence.proofs.Cells.{part}
-use Rattle.coherence.proofs.Copies.{copy_none, copy_readonly, line_writable, copy_dropped, other_dropped, line_written, other_written}
+use Rattle.coherence.proofs.CacheCopies.{copy_none, copy_readonly, line_writable, copy_dropped, other_dropped, line_written, other_written}
 
 -- ---- messages
 
@@ -92,13 +93,17 @@ barrier_said block body other = by (0 == block)
     by true = rw other refl
     by false = refl
 
+-- a store to an address of a block
+pub stores_here : (machine : MachineParts) (address width value block : ℕ) → shared_block machine address ≡ Some block → stores_to machine (Stored address width value) block ≡ true
+stores_here machine address width value block there = rw there (eq-eqb block block refl)
+
 -- An event deals with a block, so that this is left of what is under way from its home.
-pub record IsDealt (block : ℕ) (up down rest : List Body) (old : NodeState) (handled : Handled) : Type 0 where
-  pub deal : DealsWith (cell_of block up down old) (cell_of block (up ++ sent_home block (told handled.sends)) rest handled.node)
+pub record IsDealt (machine : MachineParts) (block : ℕ) (up down rest : List Body) (old : NodeState) (handled : Handled) : Type 0 where
+  pub deal : DealsWith (stores_to machine handled.deed block) (cell_of block up down old) (cell_of block (up ++ sent_home block (told handled.sends)) rest handled.node)
 
 module _ (machine : MachineParts) (block time : ℕ) (up down : List Body) (old : NodeState) (is : IsMachine machine) (fits : CacheFits machine old.cache) (running : old.mode ≡ Running) where
   abbrev Dealt : Handled → Type 0
-  Dealt handled = IsDealt block up down down old handled
+  Dealt handled = IsDealt machine block up down down old handled
 
   some : 1 ≤ old.cache.machine.sets
   some = some_sets machine old.cache is fits
@@ -113,6 +118,7 @@ module _ (machine : MachineParts) (block time : ℕ) (up down : List Body) (old 
       deals = [];
       may = tt;
       is = same_part _ _ _ _ _ _ down (wants ∙ sym waits_not) copy (ap (λ (l : List Body). up ++ l) sends ∙ append-nil up);
+      keeps = λ none value. refl;
     };
   }
 
@@ -131,6 +137,7 @@ module _ (machine : MachineParts) (block time : ℕ) (up down : List Body) (old 
       deals = Asks exclusive ∷ [];
       may = ((waits_not, absent), tt);
       is = by exclusive;
+      keeps = λ none value. refl;
     };
   }
     where
@@ -151,6 +158,7 @@ module _ (machine : MachineParts) (block time : ℕ) (up down : List Body) (old 
       deals = Upgrades bytes ∷ [];
       may = ((waits_not, held), tt);
       is = same_part _ _ _ _ _ _ down (waiting_here block true) (copy_dropped old.cache block fits.sound some) (ap (λ (l : List Body). up ++ l) (sent_here block (GetX true) refl));
+      keeps = λ none value. refl;
     };
   }
 
@@ -164,8 +172,8 @@ module _ (machine : MachineParts) (block time : ℕ) (up down : List Body) (old 
 
   -- ---- stores
 
-  writes_here : (offset width value : ℕ) (handled : Handled) → tag_of old.cache block ≡ Writable → handled.node.mode ≡ old.mode → handled.node.cache ≡ write_of block offset width value old.cache → handled.sends ≡ [] → Dealt handled
-  writes_here offset width value handled held mode cache sends =
+  writes_here : (offset width value : ℕ) (handled : Handled) → stores_to machine handled.deed block ≡ true → tag_of old.cache block ≡ Writable → handled.node.mode ≡ old.mode → handled.node.cache ≡ write_of block offset width value old.cache → handled.sends ≡ [] → Dealt handled
+  writes_here offset width value handled at held mode cache sends =
       let line = line_writable (line_of old.cache block) held in
       let old_line = line.0 in
       let w = line.2 in
@@ -178,12 +186,13 @@ module _ (machine : MachineParts) (block time : ℕ) (up down : List Body) (old 
               (ap (λ (c : Cached). copy_of c block) cache ∙ ap copy_by (line_written old.cache block offset width value old_line fits.sound some line.1 w)
               ∙ ap (λ (x : Bool). let copy : Copy = record { writable = x; bytes = new } in Some copy) w)
               (ap (λ (l : List Send). up ++ sent_home block (told l)) sends ∙ append-nil up);
+          keeps = λ none value. absurd (let f : true ≡ false = sym at ∙ none in cc);
         };
       }
 
-  writes : (target offset width value : ℕ) (handled : Handled) → tag_of old.cache target ≡ Writable → handled.node.mode ≡ old.mode → handled.node.cache ≡ write_of target offset width value old.cache → handled.sends ≡ [] → Dealt handled
-  writes target offset width value handled held mode cache sends = elim (cases_eq target block) [
-    | inl same ↦ writes_here offset width value handled (subst (λ (b : ℕ). tag_of old.cache b ≡ Writable) same held) mode (cache ∙ ap (λ (b : ℕ). write_of b offset width value old.cache) same) sends
+  writes : (target offset width value : ℕ) (handled : Handled) → stores_to machine handled.deed target ≡ true → tag_of old.cache target ≡ Writable → handled.node.mode ≡ old.mode → handled.node.cache ≡ write_of target offset width value old.cache → handled.sends ≡ [] → Dealt handled
+  writes target offset width value handled at held mode cache sends = elim (cases_eq target block) [
+    | inl same ↦ writes_here offset width value handled (subst (λ (b : ℕ). stores_to machine handled.deed b ≡ true) same at) (subst (λ (b : ℕ). tag_of old.cache b ≡ Writable) same held) mode (cache ∙ ap (λ (b : ℕ). write_of b offset width value old.cache) same) sends
     | inr apart ↦
         stays handled (ap (λ (m : Mode). wanted_in block m) mode ∙ waits_not)
         (ap (λ (c : Cached). copy_of c block) cache ∙ other_written old.cache target offset width value block fits.sound some (λ e. apart (sym e)))
@@ -209,23 +218,23 @@ module _ (machine : MachineParts) (block time : ℕ) (up down : List Body) (old 
       by (Err Misaligned) = stops _ refl refl refl
       by (Err Outside) = shared_loads op rd address (shared_block machine address)
 
-  shared_stores : (op : StoreOp) (address value : ℕ) (found : Option ℕ) → Dealt (shared_store_of machine time op address value old found)
-  shared_stores op address value None = stops _ refl refl refl
-  shared_stores op address value (Some target) = by (tag_of old.cache target) refl
+  shared_stores : (op : StoreOp) (address value : ℕ) (found : Option ℕ) → shared_block machine address ≡ found → Dealt (shared_store_of machine time op address value old found)
+  shared_stores op address value None there = stops _ refl refl refl
+  shared_stores op address value (Some target) there = by (tag_of old.cache target) refl
     where
       by : (tag : Tag) → tag_of old.cache target ≡ tag → Dealt (hit_store_by machine time op address value target old tag)
-      by Writable held = writes target (offset_of machine address) (store_width_of op) value _ held refl refl refl
+      by Writable held = writes target (offset_of machine address) (store_width_of op) value _ (stores_here machine address (store_width_of op) (stored_value op value) target there) held refl refl refl
       by ReadOnly held = upgrades target held
       by Invalid held = asks target true held
 
-  stores_to : (op : StoreOp) (address value : ℕ) → Dealt (store_to machine time op address value old)
+  stores_into : (op : StoreOp) (address value : ℕ) → Dealt (store_to machine time op address value old)
   unfolding store_to
-  stores_to op address value = by (store_of old.private address (store_width_of op) value)
+  stores_into op address value = by (store_of old.private address (store_width_of op) value)
     where
       by : (answer : Result (List ℕ) MemFault) → Dealt (store_by machine time op address value old answer)
       by (Ok memory) = goes_on _ refl refl refl
       by (Err Misaligned) = stops _ refl refl refl
-      by (Err Outside) = shared_stores op address value (shared_block machine address)
+      by (Err Outside) = shared_stores op address value (shared_block machine address) refl
 
   -- ---- annotations
 
@@ -244,6 +253,7 @@ module _ (machine : MachineParts) (block time : ℕ) (up down : List Body) (old 
               (ap (λ (l : Option Line). sent_home block (told (gives_back machine time l))) held
               ∙ ap (λ (b : ℕ). sent_home block (record { block = b; body = cond line.writable (PutX line.bytes) PutS } ∷ [])) of
               ∙ sent_here block (cond line.writable (PutX line.bytes) PutS) (put_body_goes line)));
+          keeps = λ none value. refl;
         };
       }
 
@@ -318,7 +328,7 @@ module _ (machine : MachineParts) (block time : ℕ) (up down : List Body) (old 
   does : (word : ℕ) (registers : List ℕ) (effect : Effect) → Dealt (effect_by machine time word old registers effect)
   does word registers (Next pc cost) = goes_on _ refl refl refl
   does word registers (Load op rd address) = loads_from op rd address
-  does word registers (Store op address value) = stores_to op address value
+  does word registers (Store op address value) = stores_into op address value
   does word registers (Cico op address) = annotates_at op address
   does word registers Call = calls
   does word registers Break = stops _ refl refl refl
@@ -334,10 +344,10 @@ module _ (machine : MachineParts) (block time : ℕ) (up down : List Body) (old 
       by (Some word) = does word (meaning_in machine word old).0 (meaning_in machine word old).1
 
 pub steps_deal_law : StepsDeal
-unfolding react_to_step
+unfolding react_to_step record_of
 steps_deal_law machine node block up down is running =
     let old = counted_step (next_key machine node) node in
     let handled = step_of machine (step_time node) old in
-    subst (λ (msgs : List Msg). DealsWith (cell_of block up down node) (cell_of block (up ++ sent_home block msgs) down handled.node))
+    subst (λ (msgs : List Msg). DealsWith (stores_to machine handled.deed block) (cell_of block up down node) (cell_of block (up ++ sent_home block msgs) down handled.node))
     (sym (stamped_said machine handled.node.number handled.node.counters.sent handled.sends))
     (step_deals machine block (step_time node) up down old is.numbers is.cache running).deal

@@ -1,5 +1,5 @@
 -- An event that isn't a directory's leaves each block of the world coherent.
-use Rattle.std.proofs.Common.{◌≡◌, ◌≢◌, ℕ, ◌⊎◌, inl, inr, true, false, List, [], ◌∷◌, ◌++◌, length, map, Some, refl, ap, sym, ◌∙◌, subst, arith}
+use Rattle.std.proofs.Common.{◌≡◌, ◌≢◌, ℕ, ◌⊎◌, inl, inr, Bool, true, false, List, [], ◌∷◌, ◌++◌, length, map, Some, refl, ap, sym, ◌∙◌, subst, arith}
 use Rattle.std.specs.Prelude.{◌==◌}
 use Rattle.std.specs.List.{AllByRecursion}
 use Rattle.std.proofs.lemmas.Bool.{cases_Bool, eqb-true, eq-eqb}
@@ -18,18 +18,21 @@ use Rattle.discrete_events.specs.Serial.{placed, taken, node_after}
 use Rattle.discrete_events.specs.Laws.{IsIn}
 use Rattle.discrete_events.proofs.Lists.{all_in, from_map, in_map}
 use Rattle.node.specs.declared.state.NodeState.{NodeState}
-use Rattle.node.specs.React.{message_under_key, wind_tunnel}
-use Rattle.coherence.specs.Pipes.{not_from_home_of}
-use Rattle.coherence.specs.Block.{Cell, Home, View}
+use Rattle.node.specs.React.{record_of, message_under_key, wind_tunnel}
+use Rattle.coherence.specs.Pipes.{not_from_home_of, writers}
+use Rattle.coherence.specs.Block.{Cell, pipe, Home, View}
 use Rattle.coherence.specs.Facts.{NodeFacts, asks_at_home, wakes_due, IsCoherent}
-use Rattle.coherence.specs.Laws.{steps_of}
+use Rattle.coherence.specs.Laws.{AreEnabled, steps_of}
 use Rattle.coherence.specs.Entries.{kept_of, wake_in}
 use Rattle.coherence.specs.Lines.{line, goes_from, comes_to, bodies}
-use Rattle.coherence.specs.Steps.{with_cell}
-use Rattle.coherence.specs.Deals.{cell_of, is_for_home, sent_home, said, as_step, all_dealt, MayDealAll, DealsWith, AreStepsAt}
+use Rattle.coherence.specs.Steps.{Step as BlockStep, with_cell, step_of}
+use Rattle.coherence.specs.Values.{AllCarry, HasValue, value_after}
+use Rattle.coherence.specs.Deals.{Deal, left_by, stores_to, cell_of, is_for_home, sent_home, said, as_step, all_dealt, MayDealAll, DealsWith, AreStepsAt}
 use Rattle.coherence.specs.Sends.{is_of_home, IsNotOfHome}
 use Rattle.coherence.specs.Worlds.{World, under_way, to_home_in, from_home_in, cell_by, cell_in, is_wake, view_in, IsCoherentBlock, AreRight}
-use Rattle.coherence.proofs.Steps.{steps_keep}
+use Rattle.coherence.specs.Deals.Deal.{Asks, Upgrades, Gives, Writes, Fills, Drops}
+use Rattle.coherence.proofs.Steps.{step_keeps, steps_keep}
+use Rattle.coherence.proofs.Values.{values_kept}
 use Rattle.coherence.proofs.Deals.{deals_are_steps_law}
 use Rattle.coherence.proofs.Placed.{bodies_append, length_none}
 use Rattle.coherence.proofs.WorldEvents.{IsWorldOf, node_is, two_true, comes_to_is, at, sends, news, after, news_is, none_from, home_rises, later_line, later_passed, later_count, later_here, later_elsewhere, in_later, reacted}
@@ -44,6 +47,30 @@ alike_coherent one other home wakes cell is = record {
       (subst (λ (c : Cell). NodeFacts one.home.roll node (asks_at_home node one.home.roll one.home.waiting) c) (sym (cell node)) (is.nodes node));
   wakes = wakes ∙ is.wakes ∙ ap wakes_due (sym home);
 }
+
+abbrev pub AreAlike : View → View → Type 0
+AreAlike one other = (node : ℕ) → other.cell node ≡ one.cell node
+
+-- and has the same value,
+pub alike_value : (value : List ℕ) (one other : View) → other.home ≡ one.home → AreAlike one other → HasValue value one → HasValue value other
+alike_value value one other home cell is = record {
+  copies = λ node. subst (λ (c : Cell). AllCarry value (pipe c)) (sym (cell node)) (is.copies node);
+  memory = λ none. ap (λ (h : Home). h.memory) home ∙ is.memory (λ node. ap (λ (c : Cell). writers (pipe c)) (sym (cell node)) ∙ none node);
+}
+
+-- as has one after some deals, but for what they store.
+pub deals_value : (view : View) (node : ℕ) (deals : List Deal) (value : List ℕ) → IsCoherent view → AreEnabled view (map (as_step node) deals) → HasValue value view → HasValue (left_by deals value) (steps_of (map (as_step node) deals) view)
+deals_value view node [] value facts may is = is
+deals_value view node (deal ∷ deals) value facts may is =
+    by deal (deals_value (step_of (as_step node deal) view) node deals (value_after (as_step node deal) value) (step_keeps view (as_step node deal) facts may.0) may.1 (values_kept.step view (as_step node deal) value facts may.0 is))
+  where
+    by : (d : Deal) → HasValue (left_by deals (value_after (as_step node d) value)) (steps_of (map (as_step node) deals) (step_of (as_step node d) view)) → HasValue (left_by (d ∷ deals) value) (steps_of (map (as_step node) deals) (step_of (as_step node d) view))
+    by (Asks exclusive) h = h
+    by (Upgrades bytes) h = h
+    by (Gives copy) h = h
+    by (Writes old new) h = h
+    by (Fills exclusive bytes more) h = h
+    by (Drops more) h = h
 
 -- ---- what is sent
 
@@ -101,6 +128,12 @@ module _ (sends : List Stamped) (out : AllByRecursion IsNotOfHome sends) where
 
 -- ---- the block after it
 
+-- A block is coherent then, and has the same value where there was no store to it.
+pub record IsLater (machine : MachineParts) (later : World) (block : ℕ) (stores : Bool) (value : List ℕ) : Type 0 where
+  pub now : List ℕ
+  pub same : stores ≡ false → now ≡ value
+  pub coherent : IsCoherentBlock machine later block now
+
 module _ (machine : MachineParts) (is : IsMachine machine) (world : World) (ok : IsWorldOf machine world) (key : Key) (event : Event Msg) (is_least : least (events_in (wind_tunnel machine) world) ≡ Some (key, event)) where
   abbrev it : NodeState
   it = (at machine is world ok key event is_least).node
@@ -116,7 +149,7 @@ module _ (machine : MachineParts) (is : IsMachine machine) (world : World) (ok :
 
   -- of a block: what its node deals, and that the lines of others stay
   pub record IsDealt (block : ℕ) : Type 0 where
-    pub deals : DealsWith (cell_of block (to_home_in world block it.number) (from_home_in world block it.number) it)
+    pub deals : DealsWith (stores_to machine (record_of machine it event).deed block) (cell_of block (to_home_in world block it.number) (from_home_in world block it.number) it)
         (cell_of block (to_home_in world block it.number ++ sent_home block (said its_sends)) (bodies (line (comes_to block it.number) left)) then)
     pub homes : (number : ℕ) → line (goes_from block number) left ≡ under_way (goes_from block number) world
     pub others : (number : ℕ) → (number == it.number) ≡ false → line (comes_to block number) left ≡ under_way (comes_to block number) world
@@ -161,25 +194,49 @@ module _ (machine : MachineParts) (is : IsMachine machine) (world : World) (ok :
       cell_before : cell_in world block it.number ≡ cell_of block (to_home_in world block it.number) (from_home_in world block it.number) it
       cell_before = ap (cell_by block (to_home_in world block it.number) (from_home_in world block it.number)) (node_is machine 0 world.nodes it ok.numbered (at machine is world ok key event is_least).member)
 
-      coherent : (home : Home) → IsCoherent (view_in world block home) → IsCoherent (view_in later block home)
-      coherent home facts =
-          let view = view_in world block home in
-          let deals = dealt.deals in
-          let may : MayDealAll (view.cell it.number) deals.deals = subst (λ (c : Cell). MayDealAll c deals.deals) (sym cell_before) deals.may in
-          let steps : AreStepsAt view it.number (map (as_step it.number) deals.deals) (all_dealt deals.deals (view.cell it.number)) = deals_are_steps_law view it.number deals.deals may in
-          alike_coherent (steps_of (map (as_step it.number) deals.deals) view) (view_in later block home) (sym steps.home)
-          ((let w = later_count machine is world ok key event is_least later nodes_is pending_is (is_wake block) in
-          let n = ap (λ (l : List (Key × Msg)). length l) (no_wake its_sends out block) in let o = dealt.wakes in omega (arith, w, n, o)) ∙ sym steps.wakes)
-          (λ number. cells number ∙ (λ i. with_cell it.number ((deals.is ∙ ap (all_dealt deals.deals) (sym cell_before)) i) (cell_in world block) number) ∙ sym (steps.cells number))
-          (steps_keep view (map (as_step it.number) deals.deals) facts steps.enabled)
+      abbrev steps : List BlockStep
+      steps = map (as_step it.number) dealt.deals.deals
 
-      -- The directory of its home stays.
-      pub dealt_block : IsCoherentBlock machine world block → IsCoherentBlock machine later block
-      dealt_block before = record {
-        listed = before.listed;
-        home = before.home;
-        kept = λ node member home. by node home (in_later machine is world ok key event is_least later nodes_is pending_is node member);
-        facts = coherent before.home before.facts;
+      abbrev view_before : Home → View
+      view_before home = view_in world block home
+
+      may : (home : Home) → MayDealAll ((view_before home).cell it.number) dealt.deals.deals
+      may home = subst (λ (c : Cell). MayDealAll c dealt.deals.deals) (sym cell_before) dealt.deals.may
+
+      are_steps : (home : Home) → AreStepsAt (view_before home) it.number steps (all_dealt dealt.deals.deals ((view_before home).cell it.number))
+      are_steps home = deals_are_steps_law (view_before home) it.number dealt.deals.deals (may home)
+
+      alike : (home : Home) → AreAlike (steps_of steps (view_before home)) (view_in later block home)
+      alike home number =
+          cells number ∙ (λ i. with_cell it.number ((dealt.deals.is ∙ ap (all_dealt dealt.deals.deals) (sym cell_before)) i) (cell_in world block) number) ∙ sym ((are_steps home).cells number)
+
+      coherent : (home : Home) → IsCoherent (view_before home) → IsCoherent (view_in later block home)
+      coherent home facts =
+          let step = are_steps home in
+          alike_coherent (steps_of steps (view_before home)) (view_in later block home) (sym step.home)
+          ((let w = later_count machine is world ok key event is_least later nodes_is pending_is (is_wake block) in
+          let n = ap (λ (l : List (Key × Msg)). length l) (no_wake its_sends out block) in let o = dealt.wakes in omega (arith, w, n, o)) ∙ sym step.wakes)
+          (alike home)
+          (steps_keep (view_before home) steps facts step.enabled)
+
+      valued : (home : Home) (value : List ℕ) → IsCoherent (view_before home) → HasValue value (view_before home) → HasValue (left_by dealt.deals.deals value) (view_in later block home)
+      valued home value facts has =
+          let step = are_steps home in
+          alike_value (left_by dealt.deals.deals value) (steps_of steps (view_before home)) (view_in later block home) (sym step.home) (alike home)
+          (deals_value (view_before home) it.number dealt.deals.deals value facts step.enabled has)
+
+      -- The directory of its home stays, and its value but where there is a store to it.
+      pub dealt_block : (value : List ℕ) → IsCoherentBlock machine world block value → IsLater machine later block (stores_to machine (record_of machine it event).deed block) value
+      dealt_block value before = record {
+        now = left_by dealt.deals.deals value;
+        same = λ none. dealt.deals.keeps none value;
+        coherent = record {
+          listed = before.listed;
+          home = before.home;
+          kept = λ node member home. by node home (in_later machine is world ok key event is_least later nodes_is pending_is node member);
+          facts = coherent before.home before.facts;
+          has_value = valued before.home value before.facts before.has_value;
+        };
       }
         where
           by : (node : NodeState) → node.number ≡ home_of machine block → (node ≡ then) ⊎ (IsIn node world.nodes × (node.number ≢ it.number)) → block_of node.directory block ≡ kept_of before.listed before.home

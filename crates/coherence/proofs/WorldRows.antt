@@ -32,6 +32,7 @@ use Rattle.node.specs.Laws.{Fits}
 use Rattle.coherence.specs.Pipes.{not_to_home_of, not_from_home_of, mark_of, total}
 use Rattle.coherence.specs.Block.{Cell, View}
 use Rattle.coherence.specs.Facts.{IsCoherent}
+use Rattle.coherence.specs.Values.{HasValue}
 use Rattle.coherence.specs.Rows.{Row, arrive_of, wake_of}
 use Rattle.coherence.specs.Entries.{kept_of, called_by, all_sends, news_of, news_to, wake_in, wakes_in, is_stray, DoesAs, called_at, called_first, IsOfNodes, IsStep}
 use Rattle.coherence.specs.Lines.{line, goes_from, comes_to, bodies}
@@ -49,7 +50,8 @@ use Rattle.coherence.proofs.Steps.{step_keeps}
 use Rattle.coherence.proofs.Unmarked.{IsUnmarked, arrive_unmarked, wake_unmarked}
 use Rattle.coherence.proofs.Placed.{RiseAfter, line_taken, line_left, count_taken, in_line, first_of_line, bodies_append, length_none}
 use Rattle.coherence.proofs.WorldEvents.{IsWorldOf, node_is, in_node, two_true, goes_from_is, comes_to_is, to_its_home, at, sound, key_to, sends, news, after, comes_rises, least_here, later_line, later_passed, later_count, later_here, later_elsewhere, in_later, reacted}
-use Rattle.coherence.proofs.WorldDeals.{alike_coherent}
+use Rattle.coherence.proofs.Values.{values_kept}
+use Rattle.coherence.proofs.WorldDeals.{alike_coherent, alike_value}
 
 -- ---- messages to the directory
 
@@ -311,12 +313,13 @@ module _ (machine : MachineParts) (is : IsMachine machine) (world : World) (ok :
 
       -- ---- another block
 
-      pub another_block : (other : ℕ) → (other ≢ block) → IsCoherentBlock machine world other → IsCoherentBlock machine later other
-      another_block other apart before = record {
+      pub another_block : (other : ℕ) (value : List ℕ) → (other ≢ block) → IsCoherentBlock machine world other value → IsCoherentBlock machine later other value
+      another_block other value apart before = record {
         listed = before.listed;
         home = before.home;
         kept = λ node member home. by node home (in_later machine is world ok key (Arrival message) is_least later nodes_is pending_is node member);
         facts = alike_coherent (view_in world other before.home) (view_in later other before.home) refl wakes cells before.facts;
+        has_value = alike_value value (view_in world other before.home) (view_in later other before.home) refl cells before.has_value;
       }
         where
           by : (node : NodeState) → node.number ≡ home_of machine other → (node ≡ then) ⊎ (IsIn node world.nodes × (node.number ≢ it.number)) → block_of node.directory other ≡ kept_of before.listed before.home
@@ -357,7 +360,7 @@ module _ (machine : MachineParts) (is : IsMachine machine) (world : World) (ok :
 
       -- ---- its block
 
-      module _ (before : IsCoherentBlock machine world block) where
+      module _ (value : List ℕ) (before : IsCoherentBlock machine world block value) where
         abbrev kept : HomeBlock
         kept = kept_of before.listed before.home
 
@@ -405,7 +408,7 @@ module _ (machine : MachineParts) (is : IsMachine machine) (world : World) (ok :
             (mid_cell : (number : ℕ) → mid.cell number ≡ cell_by block (bodies (line (goes_from block number) left)) (from_home_in world block number) (node_in number world.nodes))
             (mid_wakes : length (line (is_wake block) left) ≡ mid.wakes)
             (unmarked : (number : ℕ) → IsUnmarked (row.sent number) (view.cell number))
-            (facts : IsCoherent (by_row row mid)) where
+            (facts : IsCoherent (by_row row mid)) (has : HasValue value (by_row row mid)) where
           built_is : row_of it.directory from message.1 ≡ table.arrive_of place message.1.body kept
           built_is = ap (table.arrive_of place message.1.body) kept_is
 
@@ -450,12 +453,13 @@ module _ (machine : MachineParts) (is : IsMachine machine) (world : World) (ok :
               let d = does.wakes in
               omega (arith, c, n, s, b, a, d, mid_wakes)
 
-          row_block : IsCoherentBlock machine later block
+          row_block : IsCoherentBlock machine later block value
           row_block = record {
             listed = does.listed;
             home = row.home;
             kept = λ node member home. by node home (in_later machine is world ok key (Arrival message) is_least later nodes_is pending_is node member);
             facts = alike_coherent (by_row row mid) (view_in later block row.home) refl wakes cells facts;
+            has_value = alike_value value (by_row row mid) (view_in later block row.home) refl cells has;
           }
             where
               by : (node : NodeState) → node.number ≡ home_of machine block → (node ≡ then) ⊎ (IsIn node world.nodes × (node.number ≢ it.number)) → block_of node.directory block ≡ kept_of does.listed row.home
@@ -511,11 +515,12 @@ module _ (machine : MachineParts) (is : IsMachine machine) (world : World) (ok :
             | inr f ↦ f
           ]
 
-          pub arrived : IsCoherentBlock machine later block
+          pub arrived : IsCoherentBlock machine later block value
           arrived = row_block (arrive_of from called message.1.body before.home) step.does (taken_at from rest view) mid_cell
               (ap (λ (l : List (Key × Msg)). length l) (stays (is_wake block) not_wake))
               (λ number. arrive_unmarked view from message.1.body rest called number before.facts front)
               (step_keeps view (ArriveAtHome from message.1.body rest called) before.facts step.enabled)
+              (values_kept.step view (ArriveAtHome from message.1.body rest called) value before.facts step.enabled before.has_value)
 
           pub arrived_asked : is_stray (row_of it.directory from message.1).act ≡ false
           arrived_asked = ap (λ (r : table.Row). is_stray r.act) (ap (table.arrive_of place message.1.body) kept_is) ∙ step.asked
@@ -547,20 +552,21 @@ module _ (machine : MachineParts) (is : IsMachine machine) (world : World) (ok :
           built_is_wake : table.arrive_of place message.1.body kept ≡ table.wake_of place kept
           built_is_wake = ap (λ (b : Body). table.arrive_of place b kept) wake
 
-          pub woke : IsCoherentBlock machine later block
+          pub woke : IsCoherentBlock machine later block value
           woke = row_block (wake_of first_called before.home) (subst (DoesAs place (wake_of first_called before.home)) (sym built_is_wake) woken.does) mid
               (λ number. λ i. cell_by block (bodies (sym (stays (goes_from block number) (not_going number)) i)) (from_home_in world block number) (node_in number world.nodes))
               (let c = counted in omega (arith, c))
               (λ number. wake_unmarked view first_called number before.facts)
               (step_keeps view (WakeHome first_called) before.facts woken.enabled)
+              (values_kept.step view (WakeHome first_called) value before.facts woken.enabled before.has_value)
 
           pub woke_asked : is_stray (row_of it.directory from message.1).act ≡ false
           woke_asked = ap (λ (r : table.Row). is_stray r.act) (ap (table.arrive_of place message.1.body) kept_is ∙ built_is_wake) ∙ woken.asked
 
-        pub its_block : IsCoherentBlock machine later block
+        pub its_block : IsCoherentBlock machine later block value
         its_block = by (for_directory message.1.body kind)
           where
-            by : (not_to_home_of message.1.body ≡ 0) ⊎ (message.1.body ≡ Wake) → IsCoherentBlock machine later block
+            by : (not_to_home_of message.1.body ≡ 0) ⊎ (message.1.body ≡ Wake) → IsCoherentBlock machine later block value
             by (inl up) = arrived up
             by (inr wake) = woke wake
 
@@ -571,13 +577,14 @@ module _ (machine : MachineParts) (is : IsMachine machine) (world : World) (ok :
             by (inl up) = arrived_asked up
             by (inr wake) = woke_asked wake
 
-      -- each block of the machine
-      pub every_block : ((other : ℕ) → other < machine.blocks → IsCoherentBlock machine world other) → (other : ℕ) → other < machine.blocks → IsCoherentBlock machine later other
-      every_block before other inside = elim (cases_Bool (other == block)) [
-        | inl same ↦ let e : other ≡ block = eqb-true other block same in subst (IsCoherentBlock machine later) (sym e) (its_block (before block exists))
-        | inr apart ↦ another_block other (λ e. let t : (other == block) ≡ true = eq-eqb other block e in let f : true ≡ false = sym t ∙ apart in cc) (before other inside)
-      ]
+      module _ (value : ℕ → List ℕ) (before : (other : ℕ) → other < machine.blocks → IsCoherentBlock machine world other (value other)) where
+        -- each block of the machine
+        pub every_block : (other : ℕ) → other < machine.blocks → IsCoherentBlock machine later other (value other)
+        every_block other inside = elim (cases_Bool (other == block)) [
+          | inl same ↦ let e : other ≡ block = eqb-true other block same in subst (λ (b : ℕ). IsCoherentBlock machine later b (value b)) (sym e) (its_block (value block) (before block exists))
+          | inr apart ↦ another_block other (value other) (λ e. let t : (other == block) ≡ true = eq-eqb other block e in let f : true ≡ false = sym t ∙ apart in cc) (before other inside)
+        ]
 
-      -- and the message isn't stray
-      pub none_stray_of_row : ((other : ℕ) → other < machine.blocks → IsCoherentBlock machine world other) → then.counters.stray ≡ it.counters.stray
-      none_stray_of_row before = let s = done.stray in let a = ap once (its_row_asked (before block exists)) in omega (arith, s, a)
+        -- and the message isn't stray
+        pub none_stray_of_row : then.counters.stray ≡ it.counters.stray
+        none_stray_of_row = let s = done.stray in let a = ap once (its_row_asked (value block) (before block exists)) in omega (arith, s, a)

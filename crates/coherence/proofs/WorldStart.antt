@@ -1,5 +1,5 @@
 -- A machine at the start is a coherent world.
-use Rattle.std.proofs.Common.{◌≡◌, ℕ, zero, suc, ◌/◌, ◌<◌, Bool, false, List, [], length, map, replicate, get_or, Option, Some, None, refl, ap, sym, ◌∙◌, subst, arith}
+use Rattle.std.proofs.Common.{◌≡◌, ℕ, zero, suc, ◌*◌, ◌/◌, ◌<◌, Bool, false, List, [], length, map, replicate, get_or, Option, Some, None, refl, ap, sym, ◌∙◌, subst, arith}
 use Rattle.std.specs.List.{range_with_len, find}
 use Rattle.std.specs.FinMap.{get-empty, empty, entries}
 use Rattle.std.proofs.lemmas.List.FromFn.{get_or-map-range_with_len}
@@ -7,13 +7,13 @@ use Rattle.wt_params.specs.declared.parts.MachineParts.{MachineParts}
 use Rattle.wt_params.specs.Machine.{IsMachine, home_of}
 use Rattle.wt_proto.specs.declared.key.Key.{Key}
 use Rattle.wt_proto.specs.declared.message.Msg.{Msg}
-use Rattle.wt_proto.specs.declared.mode.Mode.TheVariants.{Running}
+use Rattle.wt_proto.specs.declared.mode.Mode.TheVariants.{Running, Waiting}
 use Rattle.dir1sw.specs.Homes.{count_of, block_of, fresh_block}
 use Rattle.target_cache.specs.declared.line.Line.{Line}
 use Rattle.target_cache.specs.Cached.{empty_cache, line_of}
 use Rattle.target_cache.specs.Lines.{holds}
-use Rattle.image_loader.specs.Images.{LoadedImages}
-use Rattle.image_loader.specs.Loading.{block_of as loaded_block}
+use Rattle.image_loader.specs.Images.{LoadedImages, IsFor}
+use Rattle.image_loader.specs.Loading.{AreLoaded, shared_of, block_of as loaded_block}
 use Rattle.start_memories.specs.Start.{block_at, block_at_start, homes_of}
 use Rattle.wt_proto.specs.KeyOrder.{key_cmp}
 use Rattle.discrete_events.specs.Laws.{IsIn}
@@ -30,7 +30,12 @@ use Rattle.coherence.specs.Meetings.Stand.{Away}
 use Rattle.coherence.specs.Moves.{stand_in}
 use Rattle.coherence.specs.Worlds.{World, node_in, under_way, cell_by, cell_in, is_wake, view_in, IsCoherentBlock, arrives_from, leaves_from, goes_to, stand_of, meeting_in, IsOrderly, IsCoherentWorld}
 use Rattle.coherence.proofs.RowDeals.{place_inside}
+use Rattle.coherence.specs.Laws.{IsStart as IsFirstView}
+use Rattle.coherence.specs.Values.{HasValue}
+use Rattle.coherence.specs.Traces.{bytes_of, known_at_start}
 use Rattle.coherence.proofs.Steps.{start_coherent}
+use Rattle.coherence.proofs.Values.{values_kept}
+use Rattle.coherence.proofs.Bytes.{start_size, start_bytes}
 use Rattle.coherence.proofs.Meetings.{meetings_orderly}
 use Rattle.coherence.proofs.Placed.{length_none}
 use Rattle.coherence.proofs.WorldEvents.{in_node}
@@ -44,7 +49,7 @@ no_line : (machine : MachineParts) (block : ℕ) → line_of (empty_cache machin
 unfolding line_of empty_cache
 no_line machine block = ap (λ (lines : List Line). find (holds block) lines) (none_in machine.sets _)
 
-module _ (machine : MachineParts) (is : IsMachine machine) (loaded : LoadedImages) (traced : Bool) where
+module _ (machine : MachineParts) (is : IsMachine machine) (loaded : LoadedImages) (for : IsFor machine loaded) (loads : AreLoaded loaded) (traced : Bool) where
   abbrev start : World
   start = start_of machine loaded traced
 
@@ -99,17 +104,21 @@ module _ (machine : MachineParts) (is : IsMachine machine) (loaded : LoadedImage
           let member = (in_node number start.nodes node e).0 in
           (λ i. record { wants = wanted_in block ((fresh node member).running i); copy = no_copy node block member i; to_home = []; from_home = [] })
 
-  pub block_coherent : (block : ℕ) → block < machine.blocks → IsCoherentBlock machine start block
+  first_view : (block : ℕ) → IsFirstView (view_in start block (home_at_start block))
+  first_view block = record {
+    roll = refl;
+    waiting = refl;
+    wakes = ap (λ (l : List (Key × Msg)). length l) (none_under_way (is_wake block));
+    cells = cells block;
+  }
+
+  pub block_coherent : (block : ℕ) → block < machine.blocks → IsCoherentBlock machine start block (bytes_of machine (shared_of loaded) block)
   block_coherent block exists = record {
     listed = false;
     home = home_at_start block;
     kept = λ node member home. ap (λ d. block_of d block) ((fresh node member).directory ∙ ap (homes_of machine loaded) home) ∙ block_start block exists;
-    facts = start_coherent (view_in start block (home_at_start block)) (record {
-      roll = refl;
-      waiting = refl;
-      wakes = ap (λ (l : List (Key × Msg)). length l) (none_under_way (is_wake block));
-      cells = cells block;
-    });
+    facts = start_coherent (view_in start block (home_at_start block)) (first_view block);
+    has_value = subst (λ (v : List ℕ). HasValue v (view_in start block (home_at_start block))) (sym (start_bytes machine loaded for block)) (values_kept.start (view_in start block (home_at_start block)) (first_view block));
   }
 
   -- ---- the whole
@@ -130,7 +139,10 @@ module _ (machine : MachineParts) (is : IsMachine machine) (loaded : LoadedImage
       stands number None e = refl
       stands number (Some other) e = ap stand_in (fresh other (in_node number start.nodes other e).0).running
 
-  pub start_is_coherent : IsCoherentWorld machine start
+  shared_size : length (shared_of loaded) ≡ machine.blocks * machine.block_bytes
+  shared_size = start_size loaded loads (let p = for.private_bytes in let m = is.private_bytes.range.at_most in omega (arith, p, m)) ∙ (λ i. for.blocks i * for.block_bytes i)
+
+  pub start_is_coherent : IsCoherentWorld machine start (known_at_start loaded)
   start_is_coherent = record {
     blocks = block_coherent;
     barrier = barrier_orderly;
@@ -139,4 +151,6 @@ module _ (machine : MachineParts) (is : IsMachine machine) (loaded : LoadedImage
       in_time = λ key msg node there member from. absurd (let e : None ≡ Some msg = sym (get-empty key_cmp key) ∙ there in cc);
     };
     none_stray = λ node member. (fresh node member).stray;
+    size = shared_size;
+    words = λ node block exclusive member waits. absurd (let e : Running ≡ Waiting block exclusive = sym (fresh node member).running ∙ waits in cc);
   }

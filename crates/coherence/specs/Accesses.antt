@@ -1,6 +1,6 @@
 -- What an event of a node does with the bytes of shared memory: a load reads those of its copy, a store changes them, and
 -- a processor that waits goes on with the word that it was at. Own.
-use Rattle.std.specs.Prelude.{◌≡◌, ⊤, ℕ, ◌+◌, ◌≤◌, ◌==◌, Bool, true, false, List, length, slice_range, Option, Some, None, IfSome}
+use Rattle.std.specs.Prelude.{◌≡◌, ⊤, ℕ, ◌+◌, ◌≤◌, Bool, true, List, length, slice_range, Option, Some, IfSome}
 use Rattle.wt_params.specs.declared.parts.MachineParts.{MachineParts}
 use Rattle.wt_params.specs.Machine.{shared_block}
 use Rattle.rv_decode.specs.declared.instr.LoadOp.{LoadOp}
@@ -14,7 +14,7 @@ use Rattle.wt_proto.specs.declared.mode.Mode.TheVariants.{Running, Waiting}
 use Rattle.wt_trace.specs.declared.record.Deed.{Deed}
 use Rattle.wt_trace.specs.declared.record.Deed.TheVariants.{Loaded, Stored}
 use Rattle.target_cache.specs.Cached.{Cached}
-use Rattle.discrete_events.specs.Simulation.{Event, Step, Arrival}
+use Rattle.discrete_events.specs.Simulation.{Step, Arrival}
 use Rattle.node.specs.declared.state.NodeState.{NodeState}
 use Rattle.node.specs.Processor.{fetch_of}
 use Rattle.node.specs.React.{react, record_of}
@@ -88,7 +88,7 @@ pub record AccessesAreRight : Type 0 where
       (record_of machine node (Arrival (key, msg))).deed ≡ Stored address width value → is_shared address ≡ true →
       StoresInData machine address width value msg (react machine node (Arrival (key, msg))).0.cache
   pub message_waited : (machine : MachineParts) (node : NodeState) (key : Key) (msg : Msg) → IsNode machine node → IsWantedIn node.mode msg →
-      IsDone (record_of machine node (Arrival (key, msg))).deed → (block : ℕ) × (exclusive : Bool) × (node.mode ≡ Waiting block exclusive)
+      IfSome (data_of msg.body) (λ bytes. length bytes ≡ machine.block_bytes) → IsDone (record_of machine node (Arrival (key, msg))).deed → (block : ℕ) × (exclusive : Bool) × (node.mode ≡ Waiting block exclusive)
   pub message_waits : (machine : MachineParts) (node : NodeState) (key : Key) (msg : Msg) (block : ℕ) (exclusive : Bool) → IsNode machine node →
-      IsWantedIn node.mode msg → (react machine node (Arrival (key, msg))).0.mode ≡ Waiting block exclusive →
+      IsWantedIn node.mode msg → IfSome (data_of msg.body) (λ bytes. length bytes ≡ machine.block_bytes) → (react machine node (Arrival (key, msg))).0.mode ≡ Waiting block exclusive →
       StillWaits machine node (react machine node (Arrival (key, msg))).0

@@ -13,6 +13,7 @@ pub mod RowDeals
 pub mod Moves
 pub mod Sends
 pub mod Worlds
+pub mod Copies
 pub mod Runs
 pub mod Traces
 pub mod Loads

@@ -1,5 +1,5 @@
 -- Each block and the barrier of a whole machine, as they stand in a world of its run, and what holds of them. Own.
-use Rattle.std.specs.Prelude.{◌≡◌, ⊤, ℕ, ◌<◌, ◌≤◌, ◌==◌, ◌&&◌, Bool, false, List, [], ◌∷◌, length, Option, Some, None, if◌then◌else◌}
+use Rattle.std.specs.Prelude.{◌≡◌, ⊤, ℕ, ◌*◌, ◌<◌, ◌≤◌, ◌==◌, ◌&&◌, Bool, false, List, [], ◌∷◌, length, Option, Some, None, if◌then◌else◌}
 use Rattle.std.specs.FinMap.{get, entries}
 use Rattle.wt_params.specs.declared.parts.MachineParts.{MachineParts}
 use Rattle.wt_params.specs.Machine.{home_of}
@@ -8,15 +8,19 @@ use Rattle.wt_proto.specs.declared.key.Key.{Key}
 use Rattle.wt_proto.specs.declared.message.Body.{Body}
 use Rattle.wt_proto.specs.declared.message.Body.TheVariants.{Inv}
 use Rattle.wt_proto.specs.declared.message.Msg.{Msg}
+use Rattle.wt_proto.specs.declared.mode.Mode.TheVariants.{Waiting}
 use Rattle.dir1sw.specs.Homes.{block_of}
 use Rattle.target_barrier.specs.Barrier.{Barrier}
 use Rattle.discrete_events.specs.World.{World as WorldOf}
 use Rattle.discrete_events.specs.Laws.{IsIn}
 use Rattle.node.specs.declared.state.NodeState.{NodeState}
 use Rattle.node.specs.State.{last_time_of}
+use Rattle.node.specs.Processor.{fetch_of}
 use Rattle.coherence.specs.Block.{Cell, Home, View}
 use Rattle.coherence.specs.Entries.{kept_of, wake_in}
 use Rattle.coherence.specs.Facts.{IsCoherent}
+use Rattle.coherence.specs.Values.{HasValue}
+use Rattle.coherence.specs.Traces.{Known, bytes_of}
 use Rattle.coherence.specs.Lines.{line, goes_from, comes_to, bodies}
 use Rattle.coherence.specs.Deals.{cell_of}
 use Rattle.coherence.specs.Meetings.{Stand, Part, Meeting, HavePlaces}
@@ -65,13 +69,14 @@ view_in world block home = record {
   cell = cell_in world block;
 }
 
--- A block is coherent, with the names of all that the entry in the directory of its home stands for.
-pub record IsCoherentBlock (machine : MachineParts) (world : World) (block : ℕ) : Type 0 where
+-- A block is coherent and has a value, with the names of all that the entry in the directory of its home stands for.
+pub record IsCoherentBlock (machine : MachineParts) (world : World) (block : ℕ) (value : List ℕ) : Type 0 where
   pub listed : Bool
   pub home : Home
   pub kept : (node : NodeState) → IsIn node world.nodes → node.number ≡ home_of machine block →
       block_of node.directory block ≡ kept_of listed home
   pub facts : IsCoherent (view_in world block home)
+  pub has_value : HasValue value (view_in world block home)
 
 -- ---- the barrier
 
@@ -121,9 +126,13 @@ pub record AreRight (machine : MachineParts) (world : World) : Type 0 where
 
 -- ---- the whole
 
--- Each block is coherent, the barrier is orderly, every message goes where it should, and none that came was stray.
-pub record IsCoherentWorld (machine : MachineParts) (world : World) : Type 0 where
-  pub blocks : (block : ℕ) → block < machine.blocks → IsCoherentBlock machine world block
+-- Each block is coherent and has the bytes that the stores so far left, the barrier is orderly, every message goes where
+-- it should, none that came was stray, and a processor that waits is at the word of its node's last step.
+pub record IsCoherentWorld (machine : MachineParts) (world : World) (known : Known) : Type 0 where
+  pub blocks : (block : ℕ) → block < machine.blocks → IsCoherentBlock machine world block (bytes_of machine known.memory block)
+  pub size : length known.memory ≡ machine.blocks * machine.block_bytes
   pub barrier : IsOrderly machine world
   pub right : AreRight machine world
   pub none_stray : (node : NodeState) → IsIn node world.nodes → node.counters.stray ≡ 0
+  pub words : (node : NodeState) (block : ℕ) (exclusive : Bool) → IsIn node world.nodes → node.mode ≡ Waiting block exclusive →
+      known.word node.number ≡ fetch_of machine node

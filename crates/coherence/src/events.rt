@@ -1,3 +1,4 @@
+ghost use Rattle.coherence.specs.Accesses.{AccessesAreRight};
 ghost use Rattle.coherence.specs.Deals.{DealsAreSteps, StepsDeal, MessagesDeal};
 ghost use Rattle.coherence.specs.Moves.{EventsMove};
 ghost use Rattle.coherence.specs.RowDeals.{RowsDeal};
@@ -37,4 +38,10 @@ pub fn events_move()
 /// but for a trap's calls. What only a home sends comes from a row of the directory alone.
 pub fn sends_are_right()
     ensures { SendsAreRight }
+{}
+
+/// A load of shared memory reads the bytes of the copy that its node has, a store changes them, and a processor that
+/// waits goes on with the word that it was at.
+pub fn accesses_are_right()
+    ensures { AccessesAreRight }
 {}

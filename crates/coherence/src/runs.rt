@@ -1,5 +1,4 @@
-ghost use Rattle.coherence.specs.Runs.{EventsKeepCoherence, HasNoStray, HasOneWriter, InEachWorld};
-ghost use Rattle.coherence.specs.Worlds.{IsCoherentWorld};
+ghost use Rattle.coherence.specs.Runs.{EventsKeepCoherence, HasNoStray, HasOneWriter, InEachWorld, LoadsAreRight, RunsAreCoherent};
 
 /// One more event of the serial run keeps a world of a machine coherent.
 pub fn events_keep_coherence()
@@ -7,9 +6,10 @@ pub fn events_keep_coherence()
 {}
 
 /// So is each world of every serial run from the start of a machine: in it a node that may write a block has the only
-/// copy, and no message was stray.
+/// copy, and no message was stray. What was recorded until then is right: each load read what the last stores left.
 pub fn runs_of_machines_are_coherent()
-    ensures coherent { InEachWorld IsCoherentWorld }
+    ensures coherent { RunsAreCoherent }
     ensures one_writer { InEachWorld HasOneWriter }
     ensures no_stray { InEachWorld HasNoStray }
+    ensures loads { LoadsAreRight }
 {}

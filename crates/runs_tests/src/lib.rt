@@ -1,6 +1,8 @@
-//! Tests of what runs: a node, its station, an inbox, an engine, the report, and the top call.
+//! Tests of what runs: a node, its station, an inbox, an engine, the copies in it, the report, and the top call.
 #![tactic(auto)]
 
+#[cfg(test)]
+mod copies;
 #[cfg(test)]
 mod engines;
 #[cfg(test)]
