@@ -27,7 +27,8 @@ pub fn check_loads(
     log: &NodeLog,
 ) -> Result<Option<u64>, NoMemory>
     requires { IsFor machine.now loaded.now }
-    ensures right { IfOk result (λ place. place ≡ first_wrong 0 (known_at_start loaded.now) log.now) }
+    ensures right { IfOk result (λ place.
+        place ≡ first_wrong 0 (known_at_start loaded.now) log.now) }
 {
     let mut memory = shared_at_start(alloc, machine, loaded)?;
     Ok(first_wrong_load(&mut memory, log))
@@ -54,7 +55,8 @@ fn first_wrong_load(memory: &mut [u8], log: &NodeLog) -> Option<u64>
 fn is_right(memory: &[u8], log: &NodeLog, place: u64, item: &Record) -> bool
     requires { place ≤ length log.now }
     ensures { (start : List ℕ) →
-        result ≡ is_right_deed (word_of (known_before start log.now place) item.now) memory.now item.now.deed }
+        result ≡ is_right_deed (word_of (known_before start log.now place) item.now) memory.now
+        item.now.deed }
 {
     match item.deed {
         Deed::Loaded { address, value } => {
@@ -94,7 +96,8 @@ fn load_in(word: Option<u32>) -> Option<LoadOp>
 /// What a load reads from shared memory.
 fn value_of_load(op: LoadOp, memory: &[u8], address: u32) -> u32
     requires { shared_base ≤ address }
-    ensures { result ≡ widened op (little_endian (bytes_from memory.now (address - shared_base) (load_width_of op))) }
+    ensures { result ≡ widened op
+        (little_endian (bytes_from memory.now (address - shared_base) (load_width_of op))) }
 {
     let place = (address - SHARED_BASE) as usize;
     widen(op, number_at(memory, place, load_width(op)))
@@ -133,7 +136,8 @@ fn byte_at(memory: &[u8], place: usize) -> u8
 /// The word of the record at a place: of a message, that of the last step of its node.
 fn word_at(log: &NodeLog, place: u64, item: &Record) -> Option<u32>
     requires { place ≤ length log.now }
-    ensures { (start : List ℕ) → result ≡ word_of (known_before start log.now place) item.now }
+    ensures { (start : List ℕ) →
+        result ≡ word_of (known_before start log.now place) item.now }
 {
     match &item.what {
         What::Step { word, .. } => *word,
