@@ -13,14 +13,14 @@ shown engine stations same live running =
     subst (AreStationsOf engine.machine) (sym same)
     (are_stations engine.machine engine refl (subst (λ (s : List StationModel). All (IsStationOf engine.machine engine.kept_end) s) same live) running)
 
-pub copies-requires : goal.copies-requires
-copies-requires c = record {
+pub copies-writers-requires : goal.copies-writers-requires
+copies-writers-requires c = record {
   machine = c.args.engine.now.machine;
   are = shown c.args.engine.now c.stations-stations.result.now c.stations-stations.ensures.value (c.stations-stations.ensures.live c.requires.unbroken) (c.stations-stations.ensures.world c.requires.unbroken);
   exists = c.requires.exists;
 }
 
-pub check_copies-requires : goal.check_copies-requires
-check_copies-requires c =
+pub check_copies-breach-requires : goal.check_copies-breach-requires
+check_copies-breach-requires c =
     subst (λ (m : MachineParts). AreStationsOf m c.stations-stations.result.now) (sym c.machine.ensures)
     (shown c.args.engine.now c.stations-stations.result.now c.stations-stations.ensures.value (c.stations-stations.ensures.live c.requires.unbroken) (c.stations-stations.ensures.world c.requires.unbroken))
