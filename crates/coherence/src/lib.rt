@@ -1,11 +1,13 @@
-//! Coherence of shared memory, block by block: whatever the order of events, no message is stray, a copy that can be
-//! written is the only copy, and each copy has what the last store left. It is proved of a machine of one block, whose
-//! home does what the directory does. Each event of a node is tied to it, where Data that comes is asked for: what it does
-//! to a block is some steps of that block, and at the block's home it does what a row of the directory says. The messages
-//! under way in a world are not tied to it yet.
+//! Coherence of shared memory: in every run of every machine no message is stray, a copy that can be written is the only
+//! copy, and each load reads what the last stores left.
 //!
-//! [`copies`] says who holds a block in a machine, and [`check_copies`] finds the first breach there. At the nodes of a
-//! world of a serial run there is none.
+//! It is proved of a machine of one block, whose home does what the directory does and whose steps may come in any order.
+//! Each event of a node is, seen from each block, some of these steps, or a row of the directory at the block's home. The
+//! messages under way between a home and a node are first in, first out. So each world of the serial run of a machine is
+//! coherent, block by block.
+//!
+//! [`copies`] says who holds a block in a machine, and [`check_copies`] finds the first breach there. [`check_loads`] finds
+//! the first load of a trace that isn't right. In a serial run from a start there is neither.
 #![tactic(auto)]
 
 mod block;
